@@ -1,0 +1,3 @@
+-- What the definitions of document 01 are written with.
+pub mod Choice
+pub mod Scan
