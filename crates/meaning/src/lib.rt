@@ -32,8 +32,8 @@ pub enum Tag {
 pub struct Plan {
     pub generation: u8,
     pub start: Number,
-    pub swept: u32,
-    pub active: u32,
+    pub swept: usize,
+    pub active: usize,
 }
 
 /// Where a string's bytes stand: the index of the first in the lent contents, and how many.
