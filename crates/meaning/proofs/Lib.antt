@@ -1,3 +1,4 @@
 -- Rows computed from the definitions.
 pub mod Shown
-pub mod Vectors
+pub mod Rows
+pub mod Steps
