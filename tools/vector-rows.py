@@ -1,5 +1,5 @@
 #!/usr/bin/env python3
-"""vector-rows.py DUMPS LISTINGS [COUNT-PER-ANSWER] > crates/meaning/proofs/Vectors.antt
+"""vector-rows.py DUMPS LISTINGS [COUNT-PER-ANSWER] > crates/sample/proofs/Vectors.antt
 
 Turns outside dumps and their listings (each ended by a line Z) into rows that the checker computes: of each answer that a mount can
 give (accepted, or refused by a number), the smallest dumps. A dump that is refused as text (15) is not for the definitions."""
@@ -57,7 +57,7 @@ def row(k, dump, listing):
     pages = [f for f in dump if f[0] == 'P']
     if listing[0][:2] == ['X', '1']:
         tags, paths, pages = [], [], []
-    out = ['pub dump%d : Dump' % k, 'dump%d = record {' % k]
+    out = ['dump%d : Dump' % k, 'dump%d = record {' % k]
     out.append('  geometry = record { size = %s; pages = %s; blocks = %s };' % (g[1], g[2], g[3]))
     out.append('  tags = %s;' % numbers(tags))
     out.append('  paths = %s;' % numbers(paths))
@@ -66,15 +66,22 @@ def row(k, dump, listing):
     out.append('}')
     out.append('')
     out.append('row%d : lines dump%d ≡ %s' % (k, k, ' ∷ '.join(['(%s)' % numbers(r) for r in shown(listing)] + ['[]'])))
-    out.append('unfolding dump%d UNFOLDING' % k)
+    out.append('unfolding lines dump%d' % k)
     out.append('row%d = refl' % k)
     return '\n'.join(out) + '\n'
+
+
+HEAD = """-- Outside dumps and what their listings show, by computation. Written by tools/vector-rows.py; dump k is the k-th of the vectors.
+use mathlib.Core.Path.{_≡_, refl}
+use mathlib.Core.List.{List, [], _∷_}
+use Prim.Native.Nat.{ℕ}
+use Rattle.meaning.proofs.Shown.{Dump, line, lines}
+"""
 
 
 def main():
     dumps, listings = parts(sys.argv[1]), parts(sys.argv[2])
     many = int(sys.argv[3]) if len(sys.argv) > 3 else 3
-    unfolding = open(sys.argv[4]).read().strip() if len(sys.argv) > 4 else ''
     by = {}
     for i, (d, l) in enumerate(zip(dumps, listings)):
         answer = int(l[0][1]) if l[0][0] == 'X' else 0
@@ -82,8 +89,9 @@ def main():
             size = sum(len(x[3]) for x in d if x[0] == 'P') if answer != 1 else 0
             by.setdefault(answer, []).append((size, i))
     chosen = sorted(i for rows in by.values() for _, i in sorted(rows)[:many])
+    print(HEAD)
     for i in chosen:
-        print(row(i + 1, dumps[i], listings[i]).replace('UNFOLDING', unfolding))
+        print(row(i + 1, dumps[i], listings[i]))
 
 
 main()
