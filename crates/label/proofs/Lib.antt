@@ -1,0 +1,6 @@
+-- Laws that the proofs of the functions share.
+pub mod Sure
+pub mod Answered
+pub mod Scanned
+pub mod Said
+pub mod Older
