@@ -1,0 +1,16 @@
+-- `plan::good_pages` meets its contract.
+-- Assumes nothing.
+use Rattle.plan.specs.Ask.{goodPages}
+use Rattle.label.proofs.Sure.{sure}
+use Rattle.plan.proofs.good_pages.Statement.{statement}
+use Rattle.plan.proofs.good_pages.Tie as tie
+
+pub good-pages-spec : {M : Type 1} → statement M
+unfolding goodPages
+good-pages-spec =
+    tie.close
+    (tie.spec
+    (λ c. search sure)
+    (λ c. search sure)
+    (λ c. search sure)
+    (λ c. search sure))

@@ -1,0 +1,16 @@
+-- `plan::good_size` meets its contract.
+-- Assumes nothing.
+use Rattle.plan.specs.Ask.{goodSize}
+use Rattle.label.proofs.Sure.{sure}
+use Rattle.plan.proofs.good_size.Statement.{statement}
+use Rattle.plan.proofs.good_size.Tie as tie
+
+pub good-size-spec : {M : Type 1} → statement M
+unfolding goodSize
+good-size-spec =
+    tie.close
+    (tie.spec
+    (λ c. search sure)
+    (λ c. search sure)
+    (λ c. search sure)
+    (λ c. search sure))

@@ -1,0 +1,3 @@
+-- What the plan's functions ask of a place, and what `select` answers.
+pub mod Ask
+pub mod Select
