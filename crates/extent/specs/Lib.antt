@@ -1,0 +1,2 @@
+-- Rows of extents, and what a run laid over them asks.
+pub mod Rows
