@@ -1,0 +1,2 @@
+-- The extents of all files, rows by file.
+pub mod Runs
