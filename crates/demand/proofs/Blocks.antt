@@ -12,7 +12,7 @@ use lib.Dec.{T, eqb, eqb→eq}
 use Rattle.meaning.specs.declared.Geometry.{Geometry}
 use Rattle.meaning.specs.declared.Tag.the-variants.{Free}
 use Rattle.base.proofs.Tests.{lt-or, or-cases, tests, makes}
-use Rattle.meaning.specs.Flash.{Lent, imageOf, begins, blockSize, pageOf, goodGeometry, fits, byteOf, erasedPath}
+use Rattle.meaning.specs.Flash.{goodSize, goodPages, Lent, imageOf, begins, blockSize, pageOf, goodGeometry, fits, byteOf, erasedPath}
 use Rattle.meaning.specs.Services.{overwrite, relabel, erased}
 use Rattle.meaning.specs.Cut.{Erased, Kept}
 use Rattle.demand.proofs.Bytes.{over-length, over-within, over-without}
@@ -44,11 +44,11 @@ one-of n a b c d t pa pb pc pd = ⊎-elim
     is k p u = omega (arith, eqb→eq n k u)
 
 pub size-pos : (g : Geometry) → T (goodGeometry g) → 0 < g .size
-unfolding goodGeometry
+unfolding goodGeometry goodSize goodPages
 size-pos g t = one-of (g .size) 256 512 1024 2048 (search tests) (omega arith) (omega arith) (omega arith) (omega arith)
 
 pub pages-pos : (g : Geometry) → T (goodGeometry g) → 0 < g .pages
-unfolding goodGeometry
+unfolding goodGeometry goodSize goodPages
 pages-pos g t = one-of (g .pages) 4 8 16 32 (search tests) (omega arith) (omega arith) (omega arith) (omega arith)
 
 -- ---- the blocks of the contents

@@ -11,8 +11,8 @@ use Rattle.meaning.specs.declared.Extent.{Extent}
 use Rattle.base.specs.Choice.{ifTrue, ifLess, ifEq, bind, onSome, isSome, test, orElse, provided, orZero}
 use Rattle.base.specs.Scan.{any, first, places, allOf, anyOf}
 use Rattle.meaning.specs.Answer.{Answer, ok, no, numberOf, placeOf, unless, andThen, lowest}
-use Rattle.meaning.specs.Flash.{Lent, goodGeometry, blockSize, addressOf, fits, text, tagOf, byteOf, sameTag, copyOf, rOf, logR, logNumber, logGeneration, blockNumber, pathOf, successor, follows, badTag, badPath, labelsOf, begins, imageOf, blank, pageOf}
-use Rattle.meaning.specs.Labels.{sameBlock, newer, clash, unresolved, older, counts, view, is, find, has, gap, bootGap, hasGeneration, leads, activeGeneration, lowestNumber, unbroken, planFrom, planOf, inActive, inSwept, dropped, placed, stray, unswept, badLog, logPlan, generationAt, findLog, findData, labelRefusal}
+use Rattle.meaning.specs.Flash.{Lent, goodSize, goodPages, goodGeometry, blockSize, addressOf, fits, text, tagOf, byteOf, sameTag, copyOf, rOf, logR, logNumber, logGeneration, blockNumber, pathOf, successor, follows, badTag, badPath, labelsOf, begins, imageOf, blank, pageOf}
+use Rattle.meaning.specs.Labels.{sameBlock, newer, clash, unresolved, older, counts, view, is, ofGeneration, find, has, gap, bootGap, hasGeneration, leads, activeGeneration, lowestNumber, unbroken, planFrom, planOf, inActive, inSwept, dropped, placed, stray, unswept, badLog, logPlan, generationAt, findLog, findData, labelRefusal, unplaced}
 use Rattle.meaning.specs.Log.{empty, stopped, entry, join, embeddedLimit, messages, pageLog, logPage, pagesFrom, blockLog, logOf, bytesAt, logBlock, logBlocks, planned, replayed, insertion}
 use Rattle.meaning.specs.Message.{u16, u32, string, placeAt, past, barred, dots, goodName, goodEmbedded, goodRun, inLog, goodData, wellFormed, createAt, removeAt, truncateAt, writeAt, wstatAt, typed, parse}
 use Rattle.meaning.specs.Mount.{Mounted, inData, touches, used, usedPages, idle, lacks, absent, isDropped, isIdle, toErase, eraseList, shown, mount, mountOf, mountInto, filled, tableAfter, covers, whereIs, logBytes, dataBytes, byteIn, byteAt, fileByte}
@@ -80,5 +80,5 @@ answerLines contents (ok a) =
     ∷ fileLines contents (a .tree .extents) (a .tree .records)
 
 unfoldable pub lines : Dump → List (List ℕ)
-unfolding xor ifTrue ifLess ifEq bind onSome isSome test orElse provided orZero any first places allOf anyOf numberOf placeOf unless andThen lowest goodGeometry blockSize addressOf fits text tagOf byteOf sameTag copyOf rOf logR logNumber logGeneration blockNumber pathOf successor follows badTag badPath labelsOf begins imageOf blank pageOf sameBlock newer clash unresolved older counts view is find has gap bootGap hasGeneration leads activeGeneration lowestNumber unbroken planFrom planOf inActive inSwept dropped placed stray unswept badLog logPlan generationAt findLog findData labelRefusal empty stopped entry join embeddedLimit messages pageLog logPage pagesFrom blockLog logOf bytesAt logBlock logBlocks planned replayed insertion u16 u32 string placeAt past barred dots goodName goodEmbedded goodRun inLog goodData wellFormed createAt removeAt truncateAt writeAt wstatAt typed parse inData touches used usedPages idle lacks absent isDropped isIdle toErase eraseList shown mount mountOf mountInto filled tableAfter covers whereIs logBytes dataBytes byteIn byteAt fileByte nothing root bit31 isDir look alter insert delete entryOf isEmpty homeOf spot start end front back before after lay others stamp sized created truncated written given givenText restated judge applies ownAfter parentAfter recordsAfter extentsAfter changed full withinLimits passedOver step told bare replay overwrite relabel erased done inside doStep doSteps settleSteps settle isFree freeBlocks lowestFree writable cleared renewedPath reclaimSteps reclaimOn reclaim doneAll leaves bytesFrom readable read copied bufferAfter line spelled contentsFrom lent extentLine extentLines fileLines answerLines
+unfolding xor ifTrue ifLess ifEq bind onSome isSome test orElse provided orZero any first places allOf anyOf numberOf placeOf unless andThen lowest goodSize goodPages goodGeometry blockSize addressOf fits text tagOf byteOf sameTag copyOf rOf logR logNumber logGeneration blockNumber pathOf successor follows badTag badPath labelsOf begins imageOf blank pageOf sameBlock newer clash unresolved older counts view is find has gap bootGap ofGeneration unplaced hasGeneration leads activeGeneration lowestNumber unbroken planFrom planOf inActive inSwept dropped placed stray unswept badLog logPlan generationAt findLog findData labelRefusal empty stopped entry join embeddedLimit messages pageLog logPage pagesFrom blockLog logOf bytesAt logBlock logBlocks planned replayed insertion u16 u32 string placeAt past barred dots goodName goodEmbedded goodRun inLog goodData wellFormed createAt removeAt truncateAt writeAt wstatAt typed parse inData touches used usedPages idle lacks absent isDropped isIdle toErase eraseList shown mount mountOf mountInto filled tableAfter covers whereIs logBytes dataBytes byteIn byteAt fileByte nothing root bit31 isDir look alter insert delete entryOf isEmpty homeOf spot start end front back before after lay others stamp sized created truncated written given givenText restated judge applies ownAfter parentAfter recordsAfter extentsAfter changed full withinLimits passedOver step told bare replay overwrite relabel erased done inside doStep doSteps settleSteps settle isFree freeBlocks lowestFree writable cleared renewedPath reclaimSteps reclaimOn reclaim doneAll leaves bytesFrom readable read copied bufferAfter line spelled contentsFrom lent extentLine extentLines fileLines answerLines
 lines d = answerLines (lent d .contents) (mountOf (d .geometry) (lent d))

@@ -11,12 +11,17 @@ use Rattle.meaning.specs.declared.Tag.the-variants.{Free, Boot, Log, Dat
 use Rattle.base.specs.Choice.{ifTrue, ifEq}
 use Rattle.base.specs.Scan.{allOf}
 
--- "Page size 256, 512, 1024 or 2048 bytes; 4, 8, 16 or 32 pages a block; 1 to 1024 blocks."
+-- "Page size 256, 512, 1024 or 2048 bytes"
+unfoldable pub goodSize : ℕ → Bool
+goodSize s = eqb s 256 || eqb s 512 || eqb s 1024 || eqb s 2048
+
+-- "4, 8, 16 or 32 pages a block"
+unfoldable pub goodPages : ℕ → Bool
+goodPages p = eqb p 4 || eqb p 8 || eqb p 16 || eqb p 32
+
+-- ".. 1 to 1024 blocks."
 unfoldable pub goodGeometry : Geometry → Bool
-goodGeometry g =
-    (eqb (g .size) 256 || eqb (g .size) 512 || eqb (g .size) 1024 || eqb (g .size) 2048)
-    && (eqb (g .pages) 4 || eqb (g .pages) 8 || eqb (g .pages) 16 || eqb (g .pages) 32)
-    && (leb 1 (g .blocks) && leb (g .blocks) 1024)
+goodGeometry g = goodSize (g .size) && goodPages (g .pages) && (leb 1 (g .blocks) && leb (g .blocks) 1024)
 
 unfoldable pub blockSize : Geometry → ℕ
 blockSize g = g .size * g .pages

@@ -50,6 +50,10 @@ view n m t i = provided (counts n m t i) (rOf (m .path i))
 unfoldable pub is : Option ℕ → ℕ → Bool
 is o r = test (λ x. eqb x r) o
 
+-- a log block is of generation g
+unfoldable pub ofGeneration : ℕ → Option ℕ → Bool
+ofGeneration g o = test (λ r. eqb (logGeneration r) g) o
+
 -- From here on only a view v of n places is looked at.
 module _ (n : ℕ) (v : ℕ → Option ℕ) where
   -- the place that stands for r
@@ -71,7 +75,7 @@ module _ (n : ℕ) (v : ℕ → Option ℕ) where
   -- ---- the log
 
   unfoldable pub hasGeneration : ℕ → Bool
-  hasGeneration g = any n (λ i. test (λ r. eqb (logGeneration r) g) (v i))
+  hasGeneration g = any n (λ i. ofGeneration g (v i))
 
   -- g is there, and not the generation before it
   unfoldable pub leads : ℕ → Bool
@@ -118,8 +122,11 @@ dropped p r = eqb (logGeneration r) (successor (p .generation)) && eqb (logNumbe
 unfoldable pub placed : Plan → ℕ → Bool
 placed p r = inActive p r || (inSwept p r || dropped p r)
 
+unfoldable pub unplaced : Plan → Option ℕ → Bool
+unplaced p o = test (λ r. not (placed p r)) o
+
 unfoldable pub stray : ℕ → (ℕ → Option ℕ) → Plan → Bool
-stray n v p = any n (λ i. test (λ r. not (placed p r)) (v i))
+stray n v p = any n (λ i. unplaced p (v i))
 
 -- "one generation numbered 0 to n − 1": a log that starts above 0 has no swept log before it
 unfoldable pub unswept : ℕ → (ℕ → Option ℕ) → Plan → Bool

@@ -23,7 +23,8 @@ use Rattle.label.specs.declared.Found.the-variants.{At, Nothing}
 use Rattle.label.proofs.Answered.{at-some, nothing-none}
 use Rattle.label.proofs.Older.{view-fails, view-passes}
 use Rattle.label.proofs.Scanned.{Clear}
-use Rattle.plan.specs.Ask.{apart, bearer, lower, ofGeneration, strays}
+use Rattle.meaning.specs.Labels.{ofGeneration, unplaced}
+use Rattle.plan.specs.Ask.{apart, bearer, lower}
 
 -- ---- lengths
 
@@ -125,12 +126,12 @@ module _ {p : ℕ} (n : ℕ) (m : Labels) (t : Tag) (i : ℕ) (e : p ≡ m .path
       lower-new f l h k = rw (sym h ∙ k, ← its-r, eq-eqb (p / 4 % 4) g f, lt-ltb (p / 4 / 4) best l)
 
   module _ {v : Bool} (q : Plan) where
-    pub stray-held : v ≡ placed q (p / 4) → v ≡ true → false ≡ strays q (view n m t i)
-    unfolding strays
+    pub stray-held : v ≡ placed q (p / 4) → v ≡ true → false ≡ unplaced q (view n m t i)
+    unfolding unplaced
     stray-held f h = view-fails n m t i its-r (λ (r : ℕ). not (placed q r)) (rw (← f, h))
 
-    pub stray-is : {c : Bool} → v ≡ placed q (p / 4) → v ≡ false → c ≡ counts n m t i → c ≡ strays q (view n m t i)
-    unfolding strays
+    pub stray-is : {c : Bool} → v ≡ placed q (p / 4) → v ≡ false → c ≡ counts n m t i → c ≡ unplaced q (view n m t i)
+    unfolding unplaced
     stray-is f h k = view-passes n m t i its-r (λ (r : ℕ). not (placed q r)) (rw (← f, h)) k
 
     pub dropped-not : v ≡ dropped q (p / 4) → v ≡ false → false ≡ test (dropped q) (view n m t i)

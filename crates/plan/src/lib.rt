@@ -14,10 +14,10 @@ ghost use lib.ListN.{length};
 ghost use Rattle.base.specs.Choice.{test};
 ghost use Rattle.base.specs.Scan.{first};
 ghost use Rattle.meaning.specs.declared.Tag.the-variants as means;
-ghost use Rattle.meaning.specs.Flash.{badPath, badTag, copyOf, fits as theFits, goodGeometry, labelsOf, logR, successor};
-ghost use Rattle.meaning.specs.Labels.{activeGeneration, badLog, bootGap, dropped, find as theFind, gap, generationAt, has as theHas, hasGeneration, inActive, inSwept, leads as theLeads, logPlan, lowestNumber, placed as thePlaced, stray as theStray, unbroken as theUnbroken, unresolved, view};
+ghost use Rattle.meaning.specs.Flash.{goodPages, goodSize, badPath, badTag, copyOf, fits as theFits, goodGeometry, labelsOf, logR, successor};
+ghost use Rattle.meaning.specs.Labels.{ofGeneration, unplaced, activeGeneration, badLog, bootGap, dropped, find as theFind, gap, generationAt, has as theHas, hasGeneration, inActive, inSwept, leads as theLeads, logPlan, lowestNumber, placed as thePlaced, stray as theStray, unbroken as theUnbroken, unresolved, view};
 ghost use Rattle.label.specs.Search.{found};
-ghost use Rattle.plan.specs.Ask.{apart, bearer, goodPages, goodSize, lower, ofGeneration, strays};
+ghost use Rattle.plan.specs.Ask.{apart, bearer, lower};
 ghost use Rattle.plan.specs.Select.{lent, selected};
 
 // ---- GEOMETRY
@@ -417,7 +417,7 @@ fn placed(p: Plan, r: u64) -> bool
 // ---- LOG
 
 fn is_stray(tags: &[u8], paths: &[u64], p: Plan, b: Block) -> bool
-    ensures { λ x. ⌜ x ≡ strays p ((view (length (now (tags .entry))) (labelsOf (now (tags .entry)) (now (paths .entry))) means.Log) (b .0)) ⌝ }
+    ensures { λ x. ⌜ x ≡ unplaced p ((view (length (now (tags .entry))) (labelsOf (now (tags .entry)) (now (paths .entry))) means.Log) (b .0)) ⌝ }
 {
     if placed(p, label::path_at(tags, paths, b) / 4) {
         return false;

@@ -14,7 +14,7 @@ use Rattle.base.proofs.Choices.{all-less}
 use Rattle.meaning.specs.declared.Plan.{Plan}
 use Rattle.meaning.specs.Answer.{number}
 use Rattle.meaning.specs.Flash.{logR, logNumber, logGeneration, successor}
-use Rattle.meaning.specs.Labels.{is, find, has, hasGeneration, leads, activeGeneration, lowestNumber, unbroken, planFrom, planOf, inActive, inSwept, dropped, placed, stray, unswept, badLog, generationAt}
+use Rattle.meaning.specs.Labels.{ofGeneration, unplaced, is, find, has, hasGeneration, leads, activeGeneration, lowestNumber, unbroken, planFrom, planOf, inActive, inSwept, dropped, placed, stray, unswept, badLog, generationAt}
 
 -- ---- views
 
@@ -138,14 +138,14 @@ pub record Of (n : ℕ) (v : ℕ → Option ℕ) (h : ℕ) : Type 0 where
   pub generation : logGeneration r ≡ h
 
 pub generation→ : (n : ℕ) (v : ℕ → Option ℕ) (h : ℕ) → T (hasGeneration n v h) → Of n v h
-unfolding hasGeneration
+unfolding hasGeneration ofGeneration
 generation→ n v h t =
     let f : Found n (λ i. test (λ r. eqb (logGeneration r) h) (v i)) = any-elim _ _ t in
     let c : Passing (λ r. eqb (logGeneration r) h) (v (f .place)) = passing→ _ _ (f .passes) in
     record { place = f .place; r = c .value; below = f .below; at = c .at; generation = eqb→eq _ _ (c .passes) }
 
 pub →generation : (n : ℕ) (v : ℕ → Option ℕ) (h : ℕ) → Of n v h → T (hasGeneration n v h)
-unfolding hasGeneration
+unfolding hasGeneration ofGeneration
 →generation n v h o =
     any-intro _ _ (o .place) (o .below) (→passing (λ k. eqb (logGeneration k) h) (v (o .place)) (o .r) (o .at) (eqb-of (o .generation)))
 
@@ -180,7 +180,7 @@ module _ (n : ℕ) (v w : ℕ → Option ℕ) (good : T (badLog n v (planOf n v)
   p = planOf n v
 
   placed-all : (i r : ℕ) → i < n → T (is (v i) r) → T (placed p r)
-  unfolding badLog stray
+  unfolding badLog stray unplaced
   placed-all i r l s = ⊎-elim (λ t. t)
       (λ f. absurd (good (or-l (stray n v p) (unswept n v p) (any-intro n _ i l (→passing (λ k. not (placed p k)) (v i) r s (→T-not (placed p r) f))))))
       (T-dec (placed p r))
@@ -271,7 +271,7 @@ module _ (n : ℕ) (v w : ℕ → Option ℕ) (good : T (badLog n v (planOf n v)
       })
 
   stray-not : T (stray n w p) → ⊥
-  unfolding stray placed
+  unfolding stray unplaced placed
   stray-not t =
       let f : Found n (λ i. test (λ r. not (placed p r)) (w i)) = any-elim _ _ t in
       let c : Passing (λ r. not (placed p r)) (w (f .place)) = passing→ _ _ (f .passes) in

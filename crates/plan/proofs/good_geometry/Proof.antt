@@ -1,7 +1,7 @@
 -- `plan::good_geometry` meets its contract.
 -- Assumes nothing.
 use Rattle.meaning.specs.Flash.{goodGeometry}
-use Rattle.plan.specs.Ask.{goodPages, goodSize}
+use Rattle.meaning.specs.Flash.{goodPages, goodSize}
 use Rattle.label.proofs.Sure.{sure}
 use borrow.Author.Needs.{needs}
 use Rattle.plan.proofs.good_geometry.Statement.{statement}

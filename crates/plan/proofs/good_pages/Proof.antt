@@ -1,6 +1,6 @@
 -- `plan::good_pages` meets its contract.
 -- Assumes nothing.
-use Rattle.plan.specs.Ask.{goodPages}
+use Rattle.meaning.specs.Flash.{goodPages}
 use Rattle.label.proofs.Sure.{sure}
 use Rattle.plan.proofs.good_pages.Statement.{statement}
 use Rattle.plan.proofs.good_pages.Tie as tie

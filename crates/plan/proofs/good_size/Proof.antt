@@ -1,6 +1,6 @@
 -- `plan::good_size` meets its contract.
 -- Assumes nothing.
-use Rattle.plan.specs.Ask.{goodSize}
+use Rattle.meaning.specs.Flash.{goodSize}
 use Rattle.label.proofs.Sure.{sure}
 use Rattle.plan.proofs.good_size.Statement.{statement}
 use Rattle.plan.proofs.good_size.Tie as tie

@@ -4,7 +4,7 @@ use Prim.Native.Nat.{ℕ, _-_}
 use lib.ListN.{length}
 use Rattle.meaning.specs.Flash.{labelsOf}
 use Rattle.meaning.specs.Labels.{hasGeneration, view}
-use Rattle.plan.specs.Ask.{ofGeneration}
+use Rattle.meaning.specs.Labels.{ofGeneration}
 use Rattle.meaning.specs.declared.Tag.the-variants as means
 use Rattle.label.proofs.Scanned.{Clear, scans}
 use borrow.Author.Needs.{needs}
