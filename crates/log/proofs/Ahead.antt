@@ -1,17 +1,17 @@
 -- Each turn says what is ahead of its cursor.
 use mathlib.Core.Path.{_≡_, refl, sym, ap, ap₂, _∙_, subst}
 use mathlib.Core.Logic.{_≢_, ⊎-elim}
-use mathlib.Core.Bool.{Bool, true, false, _&&_, _||_}
-use mathlib.Core.Option.{Option, none, some}
+use mathlib.Core.Bool.{Bool, true, false, _||_}
+use mathlib.Core.Option.{Option, some}
 use mathlib.Core.List.{List, [], _∷_}
-use Prim.Native.Nat.{ℕ, zero, suc, _+_, _-_, _*_, _^_, _≤_, _<_}
+use Prim.Native.Nat.{ℕ, suc, _+_, _-_, _*_, _≤_, _<_}
 use native.Mathlib.Omega.{arith}
 use lib.ListN.{length, getD, drop}
 use lib.Dec.{T, eqb, eqb→eq}
 use borrow.Author.Tests.{eq-eqb, ne-eqb}
-use Rattle.base.specs.Choice.{ifTrue, ifLess, ifEq, isSome, onSome}
+use Rattle.base.specs.Choice.{isSome}
 use Rattle.base.specs.Scan.{allOf}
-use Rattle.base.proofs.Tests.{T-yes, and-l, is-false, lt-or}
+use Rattle.base.proofs.Tests.{and-l, is-false, lt-or}
 use Rattle.base.proofs.Choices.{all-true, all-less, all-eq, all-some, less-yes, less-no, eq-yes, eq-no}
 use Rattle.meaning.specs.declared.Geometry.{Geometry}
 use Rattle.meaning.specs.declared.Plan.{Plan}
@@ -21,7 +21,7 @@ use Rattle.meaning.specs.declared.Parsed.the-variants as parsed
 use Rattle.meaning.specs.declared.Refusal.the-variants as refused
 use Rattle.meaning.specs.declared.Tag.the-variants as means
 use Rattle.meaning.specs.Answer.{address, number}
-use Rattle.meaning.specs.Flash.{Lent, Image, labelsOf, imageOf, begins, blank, blockSize, logR}
+use Rattle.meaning.specs.Flash.{Lent, Image, labelsOf, imageOf, begins, blank, logR}
 use Rattle.meaning.specs.Labels.{find, findLog, generationAt, logPlan, view}
 use Rattle.meaning.specs.Message.{Page, parse}
 use Rattle.meaning.specs.Log.{Log, LogBlock, empty, stopped, entry, join, embeddedLimit, messages, pageLog, logPage, pagesFrom, blockLog, logBlock, logOf, replayed}
@@ -30,13 +30,13 @@ use Rattle.replayed.proofs.Parses.{Sound, parse-sound}
 use Rattle.replayed.proofs.Fuel.{enough}
 use Rattle.log.specs.declared.Cursor.{Cursor}
 use Rattle.log.specs.declared.Turn.{Turn}
-use Rattle.log.specs.declared.Turn.the-variants.{End, Refused, On, Told}
-use Rattle.log.specs.Turn.{begun, blockAt, inPage, lastAt, nextPage, onBlock, pageAt, said, spoken, turnOf}
+use Rattle.log.specs.declared.Turn.the-variants.{End, On}
+use Rattle.log.specs.Turn.{begun, blockAt, inPage, nextPage, onBlock, pageAt, said, spoken, turnOf}
 use Rattle.log.specs.Cursor.{Next, Placed, Ranged, Ready, Says, ahead, aheadIn, inside, left, numberAt, whole}
 use Rattle.log.proofs.Joins.{join-empty, join-stopped, join-entry, join-assoc}
 use Rattle.log.proofs.Sizes.{Sizes, sizes, block-size-low, address-low}
 use Rattle.log.proofs.Planned.{block-stands, blockOf, drop-block, drop-end}
-use Rattle.log.proofs.Paged.{length-is, page-is, place-below}
+use Rattle.log.proofs.Paged.{length-is, page-is}
 use Rattle.log.proofs.Ranges.{Small, parse-range}
 
 -- ---- messages, one by one

@@ -1,7 +1,7 @@
 -- One log after another.
 use mathlib.Core.Path.{_≡_, refl, ap}
 use mathlib.Core.Option.{Option, none, some}
-use mathlib.Core.List.{List, _++_, append-assoc}
+use mathlib.Core.List.{List, append-assoc}
 use Prim.Native.Nat.{ℕ}
 use Rattle.base.specs.Choice.{onSome}
 use Rattle.meaning.specs.declared.Message.{Message}

@@ -1,6 +1,6 @@
 -- The cursor's page in the contents is that page of the block's bytes.
-use mathlib.Core.Path.{_≡_, refl, sym, ap, ap₂, _∙_}
-use mathlib.Core.Option.{Option, none, some}
+use mathlib.Core.Path.{_≡_, sym, ap, _∙_}
+use mathlib.Core.Option.{Option, some}
 use mathlib.Core.List.{List}
 use Prim.Native.Nat.{ℕ, _+_, _*_, _≤_, _<_}
 use native.Mathlib.Omega.{arith}
@@ -11,7 +11,7 @@ use Rattle.meaning.specs.declared.Geometry.{Geometry}
 use Rattle.meaning.specs.Flash.{Lent, imageOf, addressOf, begins, blockSize, pageOf, logNumber, logR}
 use Rattle.meaning.specs.Labels.{findLog, generationAt, logPlan}
 use Rattle.meaning.specs.Message.{Page}
-use Rattle.meaning.specs.Log.{LogBlock, bytesAt, logBlock, logPage}
+use Rattle.meaning.specs.Log.{bytesAt, logBlock, logPage}
 use Rattle.log.specs.declared.Cursor.{Cursor}
 use Rattle.log.specs.Turn.{pageAt}
 use Rattle.log.specs.Cursor.{Placed, numberAt}

@@ -1,6 +1,6 @@
 -- The blocks that the labels plan: each is found, its number is at most 4095, and it stands in `replayed` where it is counted.
 use mathlib.Core.Path.{_≡_, refl, sym, ap, ap₂, _∙_, subst}
-use mathlib.Core.Logic.{_⊎_, inl, inr, ⊎-elim}
+use mathlib.Core.Logic.{_⊎_, ⊎-elim}
 use mathlib.Core.Bool.{Bool, true, false, _&&_}
 use mathlib.Core.Option.{Option, none, some}
 use mathlib.Core.List.{List, [], _∷_, _++_}
@@ -12,7 +12,7 @@ use lib.ListN.{length, getD, drop, length-append, drop-of-length-le, List·getD-
 use lib.Seq.{drop-cons, getD-append-add}
 use borrow.Author.Tests.{ne-eqb}
 use lib.Dec.{T, eqb, ltb, ltb→lt, eqb→eq}
-use Rattle.base.specs.Choice.{ifTrue, ifLess, isSome, orZero}
+use Rattle.base.specs.Choice.{ifTrue, isSome, orZero}
 use Rattle.base.specs.Scan.{first}
 use Rattle.base.proofs.Tests.{and-l, and-r, eqb-of, lt-or, T-ext}
 use Rattle.base.proofs.Choices.{all-less, less-yes, less-no}

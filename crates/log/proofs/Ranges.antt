@@ -1,13 +1,12 @@
 -- A write that parses keeps its addresses within 32 bits.
-use mathlib.Core.Path.{_≡_, refl}
+use mathlib.Core.Path.{_≡_}
 use mathlib.Core.Bool.{Bool, true, false, _&&_}
 use mathlib.Core.List.{List}
 use Prim.Native.Nat.{ℕ, _+_, _-_, _/_, _%_, _^_, _≤_, _<_}
 use native.Mathlib.Omega.{arith}
 use lib.ListN.{length}
 use lib.Dec.{T, eqb, leb}
-use borrow.Author.Tests.{leb-true, leb-false}
-use Rattle.base.specs.Choice.{ifTrue}
+use borrow.Author.Tests.{leb-false}
 use Rattle.base.proofs.Tests.{T-yes, tests}
 use Rattle.base.proofs.Choices.{all-true, all-less, all-eq, all-bind}
 use Rattle.meaning.specs.declared.Geometry.{Geometry}

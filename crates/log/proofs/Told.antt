@@ -1,12 +1,11 @@
 -- What the code is told of a place or a page: a law for each way out.
-use mathlib.Core.Path.{_≡_, refl, sym, ap, ap₂, _∙_, subst}
+use mathlib.Core.Path.{_≡_, sym, ap, ap₂, _∙_, subst}
 use mathlib.Core.Bool.{Bool, true, false}
-use mathlib.Core.Option.{Option, none, some}
-use mathlib.Core.List.{List}
+use mathlib.Core.Option.{Option}
 use Prim.Native.Nat.{ℕ, _+_, _-_, _*_, _^_, _≤_, _<_}
 use native.Mathlib.Nat.{mul-le-mul}
 use native.Mathlib.Omega.{arith}
-use lib.ListN.{length, getD, take, drop}
+use lib.ListN.{length, take, drop}
 use borrow.Author.Tests.{eq-eqb, ne-eqb}
 use Rattle.base.specs.Choice.{onSome}
 use Rattle.base.proofs.Choices.{eq-yes, eq-no}
@@ -58,8 +57,6 @@ module _ {x : Parsed} {limit : ℕ} (g : Geometry) (page : Page) (c : Cursor) (e
       → Told m (address here) d ≡ spoken g page c
   unfolding said
   found-is {d} {m} a h k = ap₂ {C = Turn} (λ (n : ℕ) (y : Cursor). Told m (address n) y) a k ∙ sym (ap (said page c) h) ∙ says
-
-pub ruleset told-message = (malformed-is, end-is, found-is)
 
 -- the part of a slice from a to a + n has n elements
 pub part-is : (a n : ℕ) → a + n - a ≡ n

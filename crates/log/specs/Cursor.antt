@@ -1,8 +1,8 @@
 -- What is left of the log at a cursor, and what a turn says of it.
 use Prim.Native.Nat.{ℕ, _+_, _-_, _*_, _^_, _≤_, _<_}
 use mathlib.Core.Path.{_≡_}
-use mathlib.Core.Bool.{Bool, true, false}
-use mathlib.Core.Option.{Option, some}
+use mathlib.Core.Bool.{true, false}
+use mathlib.Core.Option.{some}
 use mathlib.Core.List.{List, [], _∷_}
 use lib.ListN.{length, drop}
 use Rattle.base.specs.Choice.{ifLess, ifEq}
@@ -12,7 +12,6 @@ use Rattle.meaning.specs.declared.Message.{Message}
 use Rattle.meaning.specs.declared.Message.the-variants.{Create, Remove, Truncate, Write, Wstat}
 use Rattle.meaning.specs.Flash.{Lent, labelsOf, imageOf, begins, fits}
 use Rattle.meaning.specs.Labels.{findLog, logPlan}
-use Rattle.meaning.specs.Message.{Page}
 use Rattle.meaning.specs.Log.{Log, LogBlock, empty, stopped, entry, join, messages, logPage, pagesFrom, logOf, replayed}
 use Rattle.log.specs.declared.Cursor.{Cursor}
 use Rattle.log.specs.declared.Turn.{Turn}

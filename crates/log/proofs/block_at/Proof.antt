@@ -5,7 +5,6 @@ use Rattle.base.proofs.Ways.{yes<, no<}
 use mathlib.Core.Path.{refl}
 use Rattle.log.proofs.Told.{active-low, start-low, swept-low}
 use native.Mathlib.Omega.{arith}
-use borrow.Author.Needs.{needs}
 use Rattle.log.proofs.block_at.Statement.{statement}
 use Rattle.log.proofs.block_at.Tie as tie
 

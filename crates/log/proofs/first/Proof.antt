@@ -1,7 +1,6 @@
 -- `log::first` meets its contract.
 -- Assumes nothing.
 use Rattle.log.proofs.Told.{first-is}
-use borrow.Author.Needs.{needs}
 use Rattle.log.proofs.first.Statement.{statement}
 use Rattle.log.proofs.first.Tie as tie
 

@@ -3,6 +3,7 @@
 use Rattle.log.specs.Turn.{begun}
 use Rattle.base.proofs.Ways.{holds, fails, yes, no, yes=, no=}
 use Rattle.log.proofs.Told.{on-is}
+use mathlib.Core.Bool.{true}
 use mathlib.Core.Path.{refl, sym, _∙_}
 use borrow.Author.Tests.{not-true, not-false}
 use borrow.Author.Needs.{needs}
@@ -27,7 +28,7 @@ next-page-requires c κs = search needs
 
 returns-2 : tie.Need-returns-2
 unfolding begun
-returns-2 c = yes= _ _ _ _ (sym (c .before .before .before .before .before .before .byte-at .ensures) ∙ c .before .before .before .before .before .if1 .taken) (yes _ _ _ (c .before .before .before .before .is-blank .ensures) (not-false _ (c .before .before .before .if2 .left)) (yes _ _ _ (c .before .before .is-last .ensures) (c .before .if3 .taken) (on-is _ _ (c .next-page .ensures) refl)))
+returns-2 c = yes= _ _ _ _ (sym (c .before .before .before .before .before .before .byte-at .ensures) ∙ c .before .before .before .before .before .if1 .taken) (yes _ _ _ (c .before .before .before .before .is-blank .ensures) (not-false _ (c .before .before .before .if2 .left)) (yes _ _ _ (c .before .before .is-last .ensures) (c .before .if3 .taken) (on-is _ true (c .next-page .ensures) refl)))
 
 returns-3 : tie.Need-returns-3
 unfolding begun

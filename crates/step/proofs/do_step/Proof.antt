@@ -1,0 +1,43 @@
+-- `step::do_step` meets its contract.
+-- Assumes nothing.
+use native.Mathlib.Omega.{arith}
+use denote.Ref.{now}
+use Rattle.meaning.specs.declared.Step.the-variants.{Erase, PageWrite, LabelWrite}
+use Rattle.plan.specs.Select.{lent}
+use Rattle.step.proofs.Whole.{fitting, fit-good, fit-tags, fit-paths, fit-contents, erase-inside, label-inside, from-inside, to-inside, page-inside, not-fitting, not-inside, is-done, erase-left, page-left, label-left}
+use borrow.Author.Needs.{needs}
+use Rattle.step.proofs.do_step.Statement.{statement}
+use Rattle.step.proofs.do_step.Tie as tie
+
+pub do-step-spec : {M : Type 1} → statement M
+do-step-spec =
+    tie.close
+    (tie.spec
+    (λ c κs. search needs)
+    (λ c. search needs)
+    (λ c. search needs)
+    (λ c. search needs)
+    (λ c. not-fitting (c .before .before .before .before .before .before .before .before .args .g) (lent (now (c .before .before .before .before .before .before .before .before .args .tags)) (now (c .before .before .before .before .before .before .before .before .args .paths)) (now (c .before .before .before .before .before .before .before .before .args .contents))) (c .before .before .before .before .before .before .before .before .args .s) (c .before .fits2 .ensures) (c .if1 .taken))
+    (λ c κs. search needs)
+    (λ c. search needs)
+    (λ c. search needs)
+    (λ c. search needs)
+    (λ c. not-inside (c .before .before .before .before .before .before .before .before .before .before .args .g) (lent (now (c .before .before .before .before .before .before .before .before .before .before .args .tags)) (now (c .before .before .before .before .before .before .before .before .before .before .args .paths)) (now (c .before .before .before .before .before .before .before .before .before .before .args .contents))) (c .before .before .before .before .before .before .before .before .before .before .args .s) (c .before .before .before .fits2 .ensures) (c .before .before .if1 .left) (c .before .inside .ensures) (c .if2 .taken))
+    (λ c. search needs)
+    (λ c κs. ((fitting (c .before .before .before .before .before .before .before .before .before .before .before .before .before .before .before .before .args .g) (lent (now (c .before .before .before .before .before .before .before .before .before .before .before .before .before .before .before .before .args .tags)) (now (c .before .before .before .before .before .before .before .before .before .before .before .before .before .before .before .before .args .paths)) (now (c .before .before .before .before .before .before .before .before .before .before .before .before .before .before .before .before .args .contents))) (c .before .before .before .before .before .before .before .before .before .fits2 .ensures) (c .before .before .before .before .before .before .before .before .if1 .left)), erase-inside (c .before .before .before .before .before .before .before .before .before .before .before .before .before .before .before .before .args .g) (c .before .before .before .before .before .before .before .before .before .before .before .before .before .before .before .before .args .s) (c .before .before .before .before .before .before .before .inside .ensures) (c .before .before .before .before .before .before .if2 .left) (c .before .before .before .before .s .given .0 .0) (c .before .before .before .before .s .given .1)))
+    (λ c. search needs)
+    (λ c. search needs)
+    (λ c. search needs)
+    (λ c. is-done (c .before .before .before .before .before .before .before .before .before .before .before .before .before .before .before .before .before .before .before .before .before .before .before .args .g) (lent (now (c .before .before .before .before .before .before .before .before .before .before .before .before .before .before .before .before .before .before .before .before .before .before .before .args .tags)) (now (c .before .before .before .before .before .before .before .before .before .before .before .before .before .before .before .before .before .before .before .before .before .before .before .args .paths)) (now (c .before .before .before .before .before .before .before .before .before .before .before .before .before .before .before .before .before .before .before .before .before .before .before .args .contents))) (c .before .before .before .before .before .before .before .before .before .before .before .before .before .before .before .before .before .before .before .before .before .before .before .args .s) (c .before .before .before .before .before .before .before .before .before .before .before .before .before .before .before .before .fits2 .ensures) (c .before .before .before .before .before .before .before .before .before .before .before .before .before .before .before .if1 .left) (c .before .before .before .before .before .before .before .before .before .before .before .before .before .before .inside .ensures) (Erase (c .before .before .before .before .before .before .before .before .before .before .before .s .given .0 .0)) (c .before .before .before .before .before .before .before .before .before .before .before .before .before .if2 .left) (c .before .before .before .before .before .before .before .before .before .before .before .s .given .1) (erase-left (c .before .before .before .before .before .before .before .before .before .before .before .before .before .before .before .before .before .before .before .before .before .before .before .args .g) (now (c .before .before .before .before .before .before .before .before .before .before .before .before .before .before .before .before .before .before .before .before .before .before .before .args .tags)) (now (c .before .before .before .before .before .before .before .before .before .before .before .before .before .before .before .before .before .before .before .before .before .before .before .args .paths)) (now (c .before .before .before .before .before .before .before .before .before .before .before .before .before .before .before .before .before .before .before .before .before .before .before .args .contents)) (c .before .before .before .before .before .before .before .before .before .before .before .s .given .0 .0) (c .before .before .before .before .before .before .erase .ensures)))
+    (λ c. search needs)
+    (λ c κs. (fit-good (c .before .before .before .before .before .before .before .before .before .before .before .before .before .before .args .g) (lent (now (c .before .before .before .before .before .before .before .before .before .before .before .before .before .before .args .tags)) (now (c .before .before .before .before .before .before .before .before .before .before .before .before .before .before .args .paths)) (now (c .before .before .before .before .before .before .before .before .before .before .before .before .before .before .args .contents))) (fitting (c .before .before .before .before .before .before .before .before .before .before .before .before .before .before .args .g) (lent (now (c .before .before .before .before .before .before .before .before .before .before .before .before .before .before .args .tags)) (now (c .before .before .before .before .before .before .before .before .before .before .before .before .before .before .args .paths)) (now (c .before .before .before .before .before .before .before .before .before .before .before .before .before .before .args .contents))) (c .before .before .before .before .before .before .before .fits2 .ensures) (c .before .before .before .before .before .before .if1 .left)), fit-contents (c .before .before .before .before .before .before .before .before .before .before .before .before .before .before .args .g) (lent (now (c .before .before .before .before .before .before .before .before .before .before .before .before .before .before .args .tags)) (now (c .before .before .before .before .before .before .before .before .before .before .before .before .before .before .args .paths)) (now (c .before .before .before .before .before .before .before .before .before .before .before .before .before .before .args .contents))) (fitting (c .before .before .before .before .before .before .before .before .before .before .before .before .before .before .args .g) (lent (now (c .before .before .before .before .before .before .before .before .before .before .before .before .before .before .args .tags)) (now (c .before .before .before .before .before .before .before .before .before .before .before .before .before .before .args .paths)) (now (c .before .before .before .before .before .before .before .before .before .before .before .before .before .before .args .contents))) (c .before .before .before .before .before .before .before .fits2 .ensures) (c .before .before .before .before .before .before .if1 .left)), from-inside (c .before .before .before .before .before .before .before .before .before .before .before .before .before .before .args .g) (c .before .before .before .before .before .before .before .before .before .before .before .before .before .before .args .s) (c .before .before .before .before .before .inside .ensures) (c .before .before .before .before .if2 .left) (c .before .before .s2 .given .0 .0) (c .before .before .s2 .given .0 .1 .0) (c .before .before .s2 .given .0 .1 .1 .0) (c .before .before .s2 .given .1), to-inside (c .before .before .before .before .before .before .before .before .before .before .before .before .before .before .args .g) (c .before .before .before .before .before .before .before .before .before .before .before .before .before .before .args .s) (c .before .before .before .before .before .inside .ensures) (c .before .before .before .before .if2 .left) (c .before .before .s2 .given .0 .0) (c .before .before .s2 .given .0 .1 .0) (c .before .before .s2 .given .0 .1 .1 .0) (c .before .before .s2 .given .1), page-inside (c .before .before .before .before .before .before .before .before .before .before .before .before .before .before .args .g) (c .before .before .before .before .before .before .before .before .before .before .before .before .before .before .args .s) (c .before .before .before .before .before .inside .ensures) (c .before .before .before .before .if2 .left) (c .before .before .s2 .given .0 .0) (c .before .before .s2 .given .0 .1 .0) (c .before .before .s2 .given .0 .1 .1 .0) (c .before .before .s2 .given .1)))
+    (λ c. search needs)
+    (λ c. search needs)
+    (λ c. search needs)
+    (λ c. is-done (c .before .before .before .before .before .before .before .before .before .before .before .before .before .before .before .before .before .args .g) (lent (now (c .before .before .before .before .before .before .before .before .before .before .before .before .before .before .before .before .before .args .tags)) (now (c .before .before .before .before .before .before .before .before .before .before .before .before .before .before .before .before .before .args .paths)) (now (c .before .before .before .before .before .before .before .before .before .before .before .before .before .before .before .before .before .args .contents))) (c .before .before .before .before .before .before .before .before .before .before .before .before .before .before .before .before .before .args .s) (c .before .before .before .before .before .before .before .before .before .before .fits2 .ensures) (c .before .before .before .before .before .before .before .before .before .if1 .left) (c .before .before .before .before .before .before .before .before .inside .ensures) (PageWrite (c .before .before .before .before .before .s2 .given .0 .0) (c .before .before .before .before .before .s2 .given .0 .1 .0) (c .before .before .before .before .before .s2 .given .0 .1 .1 .0)) (c .before .before .before .before .before .before .before .if2 .left) (c .before .before .before .before .before .s2 .given .1) (page-left (c .before .before .before .before .before .before .before .before .before .before .before .before .before .before .before .before .before .args .g) (now (c .before .before .before .before .before .before .before .before .before .before .before .before .before .before .before .before .before .args .tags)) (now (c .before .before .before .before .before .before .before .before .before .before .before .before .before .before .before .before .before .args .paths)) (now (c .before .before .before .before .before .before .before .before .before .before .before .before .before .before .before .before .before .args .contents)) (c .before .before .before .before .before .s2 .given .0 .0) (c .before .before .before .before .before .s2 .given .0 .1 .0) (c .before .before .before .before .before .s2 .given .0 .1 .1 .0) (c .before .before .write .ensures)))
+    (λ c. search needs)
+    (λ c κs. (omega (arith, label-inside (c .before .before .before .before .before .before .before .before .before .before .before .before .before .before .before .args .g) (c .before .before .before .before .before .before .before .before .before .before .before .before .before .before .before .args .s) (c .before .before .before .before .before .before .inside .ensures) (c .before .before .before .before .before .if2 .left) (c .before .before .before .s3 .given .0 .0) (c .before .before .before .s3 .given .0 .1 .0) (c .before .before .before .s3 .given .0 .1 .1 .0) (c .before .before .before .s3 .given .1), fit-tags (c .before .before .before .before .before .before .before .before .before .before .before .before .before .before .before .args .g) (lent (now (c .before .before .before .before .before .before .before .before .before .before .before .before .before .before .before .args .tags)) (now (c .before .before .before .before .before .before .before .before .before .before .before .before .before .before .before .args .paths)) (now (c .before .before .before .before .before .before .before .before .before .before .before .before .before .before .before .args .contents))) (fitting (c .before .before .before .before .before .before .before .before .before .before .before .before .before .before .before .args .g) (lent (now (c .before .before .before .before .before .before .before .before .before .before .before .before .before .before .before .args .tags)) (now (c .before .before .before .before .before .before .before .before .before .before .before .before .before .before .before .args .paths)) (now (c .before .before .before .before .before .before .before .before .before .before .before .before .before .before .before .args .contents))) (c .before .before .before .before .before .before .before .before .fits2 .ensures) (c .before .before .before .before .before .before .before .if1 .left))), omega (arith, label-inside (c .before .before .before .before .before .before .before .before .before .before .before .before .before .before .before .args .g) (c .before .before .before .before .before .before .before .before .before .before .before .before .before .before .before .args .s) (c .before .before .before .before .before .before .inside .ensures) (c .before .before .before .before .before .if2 .left) (c .before .before .before .s3 .given .0 .0) (c .before .before .before .s3 .given .0 .1 .0) (c .before .before .before .s3 .given .0 .1 .1 .0) (c .before .before .before .s3 .given .1), fit-paths (c .before .before .before .before .before .before .before .before .before .before .before .before .before .before .before .args .g) (lent (now (c .before .before .before .before .before .before .before .before .before .before .before .before .before .before .before .args .tags)) (now (c .before .before .before .before .before .before .before .before .before .before .before .before .before .before .before .args .paths)) (now (c .before .before .before .before .before .before .before .before .before .before .before .before .before .before .before .args .contents))) (fitting (c .before .before .before .before .before .before .before .before .before .before .before .before .before .before .before .args .g) (lent (now (c .before .before .before .before .before .before .before .before .before .before .before .before .before .before .before .args .tags)) (now (c .before .before .before .before .before .before .before .before .before .before .before .before .before .before .before .args .paths)) (now (c .before .before .before .before .before .before .before .before .before .before .before .before .before .before .before .args .contents))) (c .before .before .before .before .before .before .before .before .fits2 .ensures) (c .before .before .before .before .before .before .before .if1 .left)))))
+    (λ c. search needs)
+    (λ c. search needs)
+    (λ c. search needs)
+    (λ c. is-done (c .before .before .before .before .before .before .before .before .before .before .before .before .before .before .before .before .before .before .before .before .args .g) (lent (now (c .before .before .before .before .before .before .before .before .before .before .before .before .before .before .before .before .before .before .before .before .args .tags)) (now (c .before .before .before .before .before .before .before .before .before .before .before .before .before .before .before .before .before .before .before .before .args .paths)) (now (c .before .before .before .before .before .before .before .before .before .before .before .before .before .before .before .before .before .before .before .before .args .contents))) (c .before .before .before .before .before .before .before .before .before .before .before .before .before .before .before .before .before .before .before .before .args .s) (c .before .before .before .before .before .before .before .before .before .before .before .before .before .fits2 .ensures) (c .before .before .before .before .before .before .before .before .before .before .before .before .if1 .left) (c .before .before .before .before .before .before .before .before .before .before .before .inside .ensures) (LabelWrite (c .before .before .before .before .before .before .before .before .s3 .given .0 .0) (c .before .before .before .before .before .before .before .before .s3 .given .0 .1 .0) (c .before .before .before .before .before .before .before .before .s3 .given .0 .1 .1 .0)) (c .before .before .before .before .before .before .before .before .before .before .if2 .left) (c .before .before .before .before .before .before .before .before .s3 .given .1) (label-left (c .before .before .before .before .before .before .before .before .before .before .before .before .before .before .before .before .before .before .before .before .args .g) (now (c .before .before .before .before .before .before .before .before .before .before .before .before .before .before .before .before .before .before .before .before .args .tags)) (now (c .before .before .before .before .before .before .before .before .before .before .before .before .before .before .before .before .before .before .before .before .args .paths)) (now (c .before .before .before .before .before .before .before .before .before .before .before .before .before .before .before .before .before .before .before .before .args .contents)) (c .before .before .before .before .before .before .before .before .s3 .given .0 .0) (c .before .before .before .before .before .before .before .before .s3 .given .0 .1 .0) (c .before .before .before .before .before .before .before .before .s3 .given .0 .1 .1 .0) (c .before .before .before .before .write-label .ensures .0) (c .before .before .before .before .write-label .ensures .1))))

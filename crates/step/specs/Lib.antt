@@ -1,0 +1,2 @@
+-- What one step answers, and what it leaves.
+pub mod Done
