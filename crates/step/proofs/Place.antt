@@ -8,7 +8,7 @@ use native.Mathlib.Omega.{arith}
 use lib.Dec.{T, eqb, eqb→eq, leb}
 use Rattle.base.proofs.Tests.{T-yes, and-l, or-cases}
 use Rattle.meaning.specs.declared.Geometry.{Geometry}
-use Rattle.meaning.specs.Flash.{blockSize, goodGeometry}
+use Rattle.meaning.specs.Flash.{blockSize, goodGeometry, goodPages, goodSize}
 
 -- the end of place i of n, each of s
 pub end-within : (i n s : ℕ) → i < n → (i + 1) * s ≤ n * s
@@ -19,12 +19,6 @@ next i s = add-mul i 1 s ∙ ap (λ (k : ℕ). i * s + k) (one s)
   where
     one : (x : ℕ) → 1 * x ≡ x
     one x = omega arith
-
-abbrev Sizes : ℕ → Bool
-Sizes x = eqb x 256 || eqb x 512 || eqb x 1024 || eqb x 2048
-
-abbrev Pages : ℕ → Bool
-Pages x = eqb x 4 || eqb x 8 || eqb x 16 || eqb x 32
 
 module _ (g : Geometry) where
   pub block-ends : (i s n : ℕ) → s ≡ blockSize g → n ≡ g .blocks * blockSize g → i < g .blocks → i * s + s ≤ n
@@ -42,13 +36,13 @@ module _ (g : Geometry) where
       omega arith
 
   pub size-within : goodGeometry g ≡ true → g .size ≤ 2048
-  unfolding goodGeometry
-  size-within e = four (g .size) (and-l (Sizes (g .size)) (Pages (g .pages)) (and-l (Sizes (g .size) && Pages (g .pages)) (leb 1 (g .blocks) && leb (g .blocks) 1024) (T-yes (goodGeometry g) e)))
+  unfolding goodGeometry goodSize
+  size-within e = four (g .size) (and-l (goodSize (g .size)) (goodPages (g .pages)) (and-l (goodSize (g .size) && goodPages (g .pages)) (leb 1 (g .blocks) && leb (g .blocks) 1024) (T-yes (goodGeometry g) e)))
     where
       is : (x n : ℕ) → n ≤ 2048 → T (eqb x n) → x ≤ 2048
       is x n h t = let q = eqb→eq x n t in omega arith
 
-      four : (x : ℕ) → T (Sizes x) → x ≤ 2048
+      four : (x : ℕ) → T (goodSize x) → x ≤ 2048
       four x t =
           ⊎-elim (λ u. ⊎-elim (λ v. ⊎-elim (is x 256 (omega arith)) (is x 512 (omega arith)) (or-cases (eqb x 256) (eqb x 512) v))
           (is x 1024 (omega arith)) (or-cases (eqb x 256 || eqb x 512) (eqb x 1024) u))
