@@ -1,19 +1,18 @@
 -- From the lent part to the definition: what a written part leaves of the contents.
-use mathlib.Core.Path.{_≡_, refl, sym, ap, ap₂, _∙_, subst}
+use mathlib.Core.Path.{_≡_, refl, sym, ap, ap₂, _∙_}
 use mathlib.Core.List.{List, [], _∷_, _++_, append-nil, append-assoc}
-use Prim.Native.Nat.{ℕ, zero, suc, _+_, _-_, _*_, _≤_, _<_}
+use Prim.Native.Nat.{ℕ, zero, suc, _+_, _-_, _*_, _≤_}
 use native.Mathlib.Omega.{arith}
 use borrow.Rule.Slice.PartMut.{putMid}
-use lib.ListN.{length, set, take, drop, replicate, length-take, length-drop, length-append, length-replicate, drop-of-length-le}
+use lib.ListN.{length, set, take, drop, replicate, length-drop, length-append, length-replicate, drop-of-length-le}
 use lib.Seq.{take-all, take-append-seam, take-take, drop-drop, length-take-le}
 use Rattle.meaning.specs.declared.Geometry.{Geometry}
 use Rattle.meaning.specs.declared.Block.{Block}
 use Rattle.meaning.specs.declared.Step.the-variants.{PageWrite}
-use Rattle.meaning.specs.declared.Tag.the-variants.{Free}
 use Rattle.meaning.specs.Flash.{Lent, begins, blockSize, byteOf, erasedPath, imageOf, pageOf}
 use Rattle.meaning.specs.Services.{done, erased, overwrite, relabel}
 use Rattle.plan.specs.Select.{lent}
-use Rattle.step.specs.Done.{written}
+use Rattle.step.specs.Done.{pageCopied, written}
 use Rattle.step.proofs.Place.{next}
 
 -- ---- a page that goes through a local
@@ -62,7 +61,8 @@ part-of (suc m) n (suc k) (x ∷ xs) h = part-of m n k xs (omega arith)
 
 pub page-put : (xs local : List ℕ) (from to size : ℕ) {held last : List ℕ} → from + size ≤ length xs → to + size ≤ length xs → size ≤ length local
     → held ≡ written local (take (from + size - from) (drop from xs)) → last ≡ written (take (to + size - to) (drop to xs)) held
-    → putMid to (to + size - to) xs last ≡ take to xs ++ take size (drop from xs) ++ drop (to + size) xs
+    → putMid to (to + size - to) xs last ≡ pageCopied xs from to size
+unfolding pageCopied
 page-put xs local from to size {held} {last} p q r e f =
     let a : from + size - from ≡ size = omega arith in
     let b : to + size - to ≡ size = omega arith in
@@ -76,23 +76,25 @@ page-put xs local from to size {held} {last} p q r e f =
 
 -- ---- write
 
-pub page-done : (g : Geometry) (xs : List ℕ) (from to : Block) (p s : ℕ) {last : List ℕ} → s ≡ blockSize g → (p + 1) * g .size ≤ s → from .0 * s + s ≤ length xs
-    → last ≡ take (to .0 * s + (p + 1) * g .size - g .size) xs ++ take (g .size) (drop (from .0 * s + (p + 1) * g .size - g .size) xs) ++ drop (to .0 * s + (p + 1) * g .size - g .size + g .size) xs
-    → last ≡ done g (lent [] [] xs) (PageWrite from to p) .contents
-unfolding done overwrite begins imageOf pageOf
-page-done g xs from to p s {last} e h j f =
+-- x and y are the code's positions of the target and of the source
+pub page-done : (g : Geometry) (xs : List ℕ) (from to : Block) (p s : ℕ) {x y : ℕ} {last : List ℕ} → s ≡ blockSize g → (p + 1) * g .size ≤ s → from .0 * s + s ≤ length xs
+    → x ≡ to .0 * s + p * g .size → y ≡ from .0 * s + p * g .size
+    → last ≡ pageCopied xs y x (g .size) → last ≡ done g (lent [] [] xs) (PageWrite from to p) .contents
+unfolding done overwrite begins imageOf pageOf pageCopied
+page-done g xs from to p s {x} {y} {last} e h j ex ey f =
     let n = next p (g .size) in
-    let at : (i : ℕ) → i * s + (p + 1) * g .size - g .size ≡ i * blockSize g + p * g .size =
-    λ i. let q : i * s ≡ i * blockSize g = ap (λ (k : ℕ). i * k) e in omega arith in
+    let at : (i : ℕ) → i * s + p * g .size ≡ i * blockSize g + p * g .size = λ i. ap (λ (k : ℕ). i * k + p * g .size) e in
+    let a : ℕ = to .0 * blockSize g + p * g .size in
+    let b : ℕ = from .0 * blockSize g + p * g .size in
     let room : p * g .size + g .size ≤ blockSize g = omega arith in
-    let page : take (g .size) (drop (from .0 * blockSize g + p * g .size) xs) ≡ pageOf g (take (blockSize g) (drop (from .0 * blockSize g) xs)) p =
+    let page : take (g .size) (drop b xs) ≡ pageOf g (take (blockSize g) (drop (from .0 * blockSize g) xs)) p =
     ap (take (g .size)) (sym (drop-drop (p * g .size) (from .0 * blockSize g) xs)) ∙ sym (part-of (p * g .size) (g .size) (blockSize g) (drop (from .0 * blockSize g) xs) room) in
     let q : from .0 * s ≡ from .0 * blockSize g = ap (λ (k : ℕ). from .0 * k) e in
     let fit : from .0 * blockSize g + p * g .size + g .size ≤ length xs = omega arith in
-    let long : length (take (g .size) (drop (from .0 * blockSize g + p * g .size) xs)) ≡ g .size = part-long (from .0 * blockSize g + p * g .size) (g .size) xs fit in
-    f ∙ ap₂ (λ (a b : ℕ). take a xs ++ take (g .size) (drop b xs) ++ drop (a + g .size) xs) (at (to .0)) (at (from .0))
-    ∙ ap (λ (k : ℕ). take (to .0 * blockSize g + p * g .size) xs ++ take (g .size) (drop (from .0 * blockSize g + p * g .size) xs) ++ drop (to .0 * blockSize g + p * g .size + k) xs) (sym long)
-    ∙ ap (λ (x : List ℕ). take (to .0 * blockSize g + p * g .size) xs ++ x ++ drop (to .0 * blockSize g + p * g .size + length x) xs) page
+    let long : length (take (g .size) (drop b xs)) ≡ g .size = part-long (from .0 * blockSize g + p * g .size) (g .size) xs fit in
+    f ∙ ap₂ (λ (u v : ℕ). take u xs ++ take (g .size) (drop v xs) ++ drop (u + g .size) xs) (ex ∙ at (to .0)) (ey ∙ at (from .0))
+    ∙ ap (λ (k : ℕ). take a xs ++ take (g .size) (drop b xs) ++ drop (a + k) xs) (sym long)
+    ∙ ap (λ (z : List ℕ). take a xs ++ z ++ drop (a + length z) xs) page
 
 -- ---- erase
 

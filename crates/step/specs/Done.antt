@@ -1,5 +1,5 @@
 -- What `do_step` answers and leaves: the slices after the step, or a refusal and the slices as they were.
-use Prim.Native.Nat.{ℕ}
+use Prim.Native.Nat.{ℕ, _+_}
 use mathlib.Core.List.{List, _++_}
 use lib.ListN.{length, take, drop}
 use Rattle.meaning.specs.declared.Geometry.{Geometry}
@@ -24,3 +24,7 @@ stepped g l s = left l (doStep g l s)
 -- a part of the contents with the page's bytes in it, as far as both go
 unfoldable pub written : List ℕ → List ℕ → List ℕ
 written part page = take (length part) page ++ drop (length page) part
+
+-- the contents with the size bytes at one place copied to another: "to the same page of the target"
+unfoldable pub pageCopied : List ℕ → ℕ → ℕ → ℕ → List ℕ
+pageCopied xs from to size = take to xs ++ take size (drop from xs) ++ drop (to + size) xs

@@ -5,15 +5,15 @@ use meaning::Refusal;
 use meaning::Step;
 ghost use mathlib.Core.Path.{_≡_};
 ghost use mathlib.Core.Bool.{true};
-ghost use mathlib.Core.List.{[], _++_};
+ghost use mathlib.Core.List.{[]};
 ghost use Prim.Native.Nat.{_+_, _*_, _≤_, _<_};
-ghost use lib.ListN.{length, set, take, drop, replicate};
+ghost use lib.ListN.{length, set, replicate};
 ghost use lib.Dec.{ltb};
 ghost use Rattle.meaning.specs.declared.Step.the-variants.{PageWrite};
 ghost use Rattle.meaning.specs.Flash.{blockSize, fits, goodGeometry};
 ghost use Rattle.meaning.specs.Services.{doStep, done, erased, inside as theInside};
 ghost use Rattle.plan.specs.Select.{lent};
-ghost use Rattle.step.specs.Done.{answered, stepped, written};
+ghost use Rattle.step.specs.Done.{answered, pageCopied, stepped, written};
 
 /// Whether a step was done.
 pub enum Stepped {
@@ -52,7 +52,7 @@ fn write_page(target: &mut [u8], page: &[u8])
 // The page goes through a local, for source and target stand in the same slice.
 fn copy_page(contents: &mut [u8], from: usize, to: usize, size: usize)
     requires { ⌜ (from + size ≤ length (now contents)) × (to + size ≤ length (now contents)) × (size ≤ 2048) ⌝ }
-    ensures { λ _. ⌜ now (contents .exit) ≡ take to (now (contents .entry)) ++ take size (drop from (now (contents .entry))) ++ drop (to + size) (now (contents .entry)) ⌝ }
+    ensures { λ _. ⌜ now (contents .exit) ≡ pageCopied (now (contents .entry)) from to size ⌝ }
 {
     let mut held = [0; 2048];
     let source_end = from + size;
@@ -83,7 +83,7 @@ fn erase(g: Geometry, tags: &mut [u8], paths: &mut [u64], contents: &mut [u8], b
     write_label(tags, paths, b, 0xff, ERASED);
 }
 
-// The target's end is counted to the page's end, so the page is known to lie in its block before its start is.
+// Positions are counted to the page's end: that it lies in its block is all that the tests have shown.
 fn write(g: Geometry, contents: &mut [u8], from: Block, to: Block, page: usize)
     requires { ⌜ (goodGeometry g ≡ true) × (length (now contents) ≡ g .blocks * blockSize g) × (from .0 < g .blocks) × (to .0 < g .blocks) × (page < g .pages) ⌝ }
     ensures { λ _. ⌜ now (contents .exit) ≡ (done g (lent [] [] (now (contents .entry))) (PageWrite from to page)) .contents ⌝ }

@@ -3,7 +3,7 @@
 use Prim.Native.Nat.{ℕ}
 use native.Mathlib.Omega.{arith}
 use denote.Ref.{now}
-use lib.ListN.{length, length-replicate}
+use lib.ListN.{length-replicate}
 use Rattle.step.proofs.Written.{page-put}
 use borrow.Author.Needs.{needs}
 use Rattle.step.proofs.copy_page.Statement.{statement}
@@ -26,4 +26,4 @@ copy-page-spec =
     (λ c. search needs)
     (λ c κs. search needs)
     (λ c. search needs)
-    (λ c. page-put (now (c .before .before .before .before .before .before .before .before .before .before .before .args .contents)) _ (c .before .before .before .before .before .before .before .before .before .before .before .args .from) (c .before .before .before .before .before .before .before .before .before .before .before .args .to) (c .before .before .before .before .before .before .before .before .before .before .before .args .size) (c .before .before .before .before .before .before .before .before .before .before .before .pre .0) (c .before .before .before .before .before .before .before .before .before .before .before .pre .1) (omega (arith, length-replicate {A = ℕ} 2048 0)) (c .before .before .before .before .before .before .write-page .ensures) (c .before .before .write-page2 .ensures)))
+    (λ c. let start = c .before .before .before .before .before .before .before .before .before .before .before in page-put (now (start .args .contents)) _ (start .args .from) (start .args .to) (start .args .size) (start .pre .0) (start .pre .1) (omega (arith, length-replicate {A = ℕ} 2048 0)) (c .before .before .before .before .before .before .write-page .ensures) (c .before .before .write-page2 .ensures)))

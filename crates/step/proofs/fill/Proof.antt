@@ -2,7 +2,7 @@
 -- Assumes nothing.
 use Prim.Native.Nat.{_-_}
 use lib.ListN.{length}
-use Rattle.step.proofs.Part.{Copied, Filled, fills}
+use Rattle.step.proofs.Part.{Filled, fills}
 use borrow.Author.Needs.{needs}
 use Rattle.step.proofs.fill.Statement.{statement}
 use Rattle.step.proofs.fill.Tie as tie

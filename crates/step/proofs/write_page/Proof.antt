@@ -2,7 +2,7 @@
 -- Assumes nothing.
 use Prim.Native.Nat.{_-_}
 use lib.ListN.{length}
-use Rattle.step.proofs.Part.{Copied, Filled, fills}
+use Rattle.step.proofs.Part.{Copied, fills}
 use borrow.Author.Needs.{needs}
 use Rattle.step.proofs.write_page.Statement.{statement}
 use Rattle.step.proofs.write_page.Tie as tie
