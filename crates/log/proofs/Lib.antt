@@ -6,3 +6,4 @@ pub mod Paged
 pub mod Ranges
 pub mod Ahead
 pub mod Told
+pub mod Blank

@@ -17,6 +17,8 @@ ghost use Rattle.plan.specs.Select.{lent};
 ghost use Rattle.log.specs.Turn.{begun, blockAt, inPage, lastAt, nextPage, onBlock, spoken, turnOf};
 ghost use Rattle.log.specs.Cursor.{Ready, Placed, Says, ahead, left, whole};
 
+pub mod insertion;
+
 /// A place in the log.
 pub struct Cursor {
     /// Which of the blocks that are replayed, counted over the swept and then the active log.

@@ -1,0 +1,19 @@
+-- `used::is_erasable` meets its contract.
+-- Assumes nothing.
+use Rattle.label.proofs.Sure.{sure}
+use Rattle.used.specs.Erase.{erasable}
+use borrow.Author.Needs.{needs}
+use Rattle.used.proofs.is_erasable.Statement.{statement}
+use Rattle.used.proofs.is_erasable.Tie as tie
+
+pub is-erasable-spec : {M : Type 1} → statement M
+unfolding erasable
+is-erasable-spec =
+    tie.close
+    (tie.spec
+    (λ c κs. search needs)
+    (λ c. search sure)
+    (λ c κs. search needs)
+    (λ c. search sure)
+    (λ c κs. search needs)
+    (λ c. search sure))
