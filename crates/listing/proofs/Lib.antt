@@ -1,0 +1,4 @@
+-- Laws that the proofs of the functions share.
+pub mod Ways
+pub mod Rows
+pub mod Room

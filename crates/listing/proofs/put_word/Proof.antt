@@ -1,0 +1,13 @@
+-- `listing::put_word` meets its contract.
+-- Assumes nothing.
+use borrow.Author.Needs.{needs}
+use Rattle.listing.proofs.put_word.Statement.{statement}
+use Rattle.listing.proofs.put_word.Tie as tie
+
+pub put-word-spec : {M : Type 1} → statement M
+put-word-spec =
+    tie.close
+    (tie.spec
+    (λ c κs. search needs)
+    (λ c. search needs)
+    (λ c. search needs))
