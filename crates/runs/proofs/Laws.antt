@@ -227,15 +227,17 @@ module _ (path : ℕ → ℕ) (spans rows : List (List ℕ)) (bump : ℕ) (ss : 
       reset spans s (with (spanAt spans s) 0) bump ss (rest-of spans rows bump ss s (p .parts)) rows bump (p .parts .part s i .slot) (p .parts .arena) (omega arith) (p .parts .top) (omega arith) (p .parts .part s i .room)
       (λ t j n. p .parts .apart s t i j (λ (z : s ≡ t). n (sym z)))
 
-  clear-few : length (gather cleared rows ss) ≤ length (gather spans rows ss)
-  clear-few =
+  -- as many less as the slot had rows
+  pub clear-count : length (gather cleared rows ss) + manyOf (spanAt spans s) ≡ length (gather spans rows ss)
+  clear-count =
       let o : Spot s ss = spot-of s ss i in
-      let b : length (gather spans rows ss) ≡ length (gather spans rows (o .left)) + (length (runsOf spans rows s) + length (gather spans rows (o .right))) =
-      ap (λ (l : List ℕ). length (gather spans rows l)) (o .is) ∙ rw (gather-append spans rows (o .left) (s ∷ o .right)) (simp length-append) in
+      let b : length (gather spans rows ss) ≡ length (gather spans rows (o .left)) + (manyOf (spanAt spans s) + length (gather spans rows (o .right))) =
+      ap (λ (l : List ℕ). length (gather spans rows l)) (o .is) ∙ rw (gather-append spans rows (o .left) (s ∷ o .right))
+      (simp length-append (omega (arith, length-map (rowsOf spans rows s) extentOf, own-length spans rows s (stand-of spans rows bump ss (p .parts) s i .1)))) in
       rw (clear-gathered (o .left) (o .right) (o .is)) (simp length-append (omega (arith, b)))
 
   pub clear-placed : Placed cleared rows bump ss
-  clear-placed = record { parts = clear-parts; few = omega (arith, clear-few, p .few) }
+  clear-placed = record { parts = clear-parts; few = omega (arith, clear-count, p .few) }
 
   pub clear-owned : Owned path cleared rows ss
   clear-owned = record {

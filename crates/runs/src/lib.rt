@@ -5,12 +5,21 @@ ghost use mathlib.Core.Path.{_≡_};
 ghost use Prim.Native.Nat.{_+_, _^_, _≤_, _<_};
 ghost use lib.ListN.{length, take, drop, set};
 ghost use Rattle.base.specs.Member.{In};
-ghost use Rattle.runs.specs.Runs.{spanAt, wanted, movedTo, vacant, with, rowsOf, gatherRows, total, Distinct, Live, Placed, Open, spansLaid, rowsLaid, put, Stand, Movable, closed, Roomed};
+ghost use Rattle.runs.specs.Runs.{spanAt, manyOf, wanted, movedTo, vacant, with, rowsOf, gatherRows, total, Distinct, Live, Placed, Open, spansLaid, rowsLaid, put, Stand, Movable, closed, Roomed};
 
 fn wide(x: u32) -> usize
     ensures { λ r. ⌜ (r ≡ x) × (x < 2 ^ 32) ⌝ }
 {
     x as usize
+}
+
+// How many rows the file in slot s has.
+pub fn many_at(spans: &[[u32; 3]], s: usize) -> usize
+    requires { ⌜ s < length (now spans) ⌝ }
+    ensures { λ r. ⌜ r ≡ manyOf (spanAt (now (spans .entry)) s) ⌝ }
+{
+    let p = spans[s];
+    wide(p[1])
 }
 
 // Lays a run over the rows of the file in slot s.

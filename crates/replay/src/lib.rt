@@ -1,0 +1,211 @@
+// Replay: the log told to the tree, message by message. One loop owns the records and changes them in place; the extents stand
+// in rows that are lent. No message copies either.
+ghost use mathlib.Core.Path.{_≡_};
+ghost use Prim.Native.Nat.{_≤_};
+ghost use lib.ListN.{length};
+ghost use Rattle.meaning.specs.Flash.{imageOf};
+ghost use Rattle.meaning.specs.Log.{logOf, replayed};
+ghost use Rattle.meaning.specs.Replay.{replay as theReplay};
+ghost use Rattle.plan.specs.Select.{lent};
+ghost use Rattle.log.specs.Cursor.{Ready};
+ghost use Rattle.replay.specs.Replay.{answerOf, Begins, WholeHeld};
+use edit::Edit;
+use edit::Made;
+use log::Cursor;
+use log::Turn;
+use meaning::Address;
+use meaning::Geometry;
+use meaning::Plan;
+use meaning::Refusal;
+use room::Room;
+use tree::Found;
+use tree::Tree;
+
+mod edit;
+mod room;
+
+/// How the replay ended: at the log's end, or with 7, 8 or 9.
+pub enum Said {
+    Whole,
+    Refused(Refusal),
+}
+
+pub struct Replayed {
+    pub tree: Tree,
+    pub room: Room,
+    pub applied: u64,
+    pub ignored: u64,
+    pub said: Said,
+}
+
+/// Where the log begins, if there is one.
+enum Start {
+    At(Cursor),
+    Nowhere,
+}
+
+fn begin(g: Geometry, tags: &[u8], paths: &[u64], contents: &[u8], p: Plan) -> Start
+    requires { ⌜ Ready g (lent (now tags) (now paths) (now contents)) p ⌝ }
+    ensures { λ r. ⌜ Begins g (lent (now (tags .entry)) (now (paths .entry)) (now (contents .entry))) p r ⌝ }
+{
+    match log::first(g, tags, paths, contents, p) {
+        Turn::On(c) => Start::At(c),
+        Turn::End => Start::Nowhere,
+        Turn::Refused(_) => Start::Nowhere,
+        Turn::Told(_, _, _) => Start::Nowhere,
+    }
+}
+
+/// The tree after the log. The rows of its files stand in spans and rows; what scratch holds is of no use.
+pub fn replay(
+    g: Geometry,
+    tags: &[u8],
+    paths: &[u64],
+    contents: &[u8],
+    p: Plan,
+    spans: &mut [[u32; 3]],
+    rows: &mut [[u32; 4]],
+    scratch: &mut [[u32; 4]],
+) -> Replayed
+    requires { ⌜ Ready g (lent (now tags) (now paths) (now contents)) p × (length (now spans) ≡ 256) × (length (now rows) ≡ 4096) × (1024 ≤ length (now scratch)) ⌝ }
+    ensures { λ r. ⌜ answerOf r (now (spans .exit)) (now (rows .exit)) ≡ theReplay (logOf g (replayed g (imageOf g (lent (now (tags .entry)) (now (paths .entry)) (now (contents .entry)))))) ⌝ }
+    ensures { λ r. ⌜ WholeHeld r (now (spans .exit)) (now (rows .exit)) ⌝ }
+{
+    let mut t = tree::bare();
+    let root = t.slots[0] as usize;
+    runs::fresh(spans, root);
+    let mut room = Room { bump: 0, used: 0 };
+    let mut applied: u64 = 0;
+    let mut ignored: u64 = 0;
+    let Start::At(first) = begin(g, tags, paths, contents, p) else {
+        return Replayed {
+            tree: t,
+            room,
+            applied,
+            ignored,
+            said: Said::Whole,
+        };
+    };
+    let mut c = first;
+    loop {
+        match log::next(g, tags, paths, contents, p, c) {
+            Turn::End => {
+                return Replayed {
+                    tree: t,
+                    room,
+                    applied,
+                    ignored,
+                    said: Said::Whole,
+                };
+            }
+            Turn::Refused(r) => {
+                return Replayed {
+                    tree: t,
+                    room,
+                    applied,
+                    ignored,
+                    said: Said::Refused(r),
+                };
+            }
+            Turn::On(d) => {
+                c = d;
+            }
+            Turn::Told(m, a, d) => {
+                c = d;
+                let n = t.count;
+                match tree::find(&t.keys, n, edit::path_of(m)) {
+                    Found::At(i) => {
+                        let s = t.slots[i] as usize;
+                        let f = t.records[s];
+                        match edit::edit_of(m, f) {
+                            Edit::Ignored => {
+                                ignored += 1;
+                            }
+                            Edit::Changed => {
+                                room = room::extents_after(
+                                    spans,
+                                    rows,
+                                    scratch,
+                                    &t.slots,
+                                    n,
+                                    room,
+                                    s,
+                                    m,
+                                );
+                                if 1024 < room.used {
+                                    return Replayed {
+                                        tree: t,
+                                        room,
+                                        applied,
+                                        ignored,
+                                        said: Said::Refused(Refusal::Full(a)),
+                                    };
+                                }
+                                t.records[s] = edit::revised(m, f);
+                                applied += 1;
+                            }
+                            Edit::Removed => {
+                                if tree::is_dir(f.perm) {
+                                    if !tree::is_empty(t, f.path) {
+                                        ignored += 1;
+                                        continue;
+                                    }
+                                }
+                                room = room::extents_after(
+                                    spans,
+                                    rows,
+                                    scratch,
+                                    &t.slots,
+                                    n,
+                                    room,
+                                    s,
+                                    m,
+                                );
+                                tree::close_key(&mut t.keys, n, i);
+                                tree::close_slot(&mut t.slots, n, i);
+                                t.count = n - 1;
+                                applied += 1;
+                                let Found::At(j) = tree::find(&t.keys, n - 1, f.parent) else {
+                                    continue;
+                                };
+                                let h = t.slots[j] as usize;
+                                t.records[h] = edit::stamped_by(m, t.records[h]);
+                            }
+                        }
+                    }
+                    Found::Gap(j) => {
+                        let Made::File(q) = edit::made_by(m) else {
+                            ignored += 1;
+                            continue;
+                        };
+                        let Found::At(k) = tree::find(&t.keys, n, q.parent) else {
+                            ignored += 1;
+                            continue;
+                        };
+                        let h = t.slots[k] as usize;
+                        let parent = t.records[h];
+                        if !tree::is_dir(parent.perm) {
+                            ignored += 1;
+                            continue;
+                        }
+                        if n == 256 {
+                            return Replayed {
+                                tree: t,
+                                room,
+                                applied,
+                                ignored,
+                                said: Said::Refused(Refusal::Full(a)),
+                            };
+                        }
+                        tree::open_key(&mut t.keys, n, j, q.path);
+                        let s = tree::open_slot(&mut t.slots, n, j) as usize;
+                        runs::fresh(spans, s);
+                        t.records[s] = q;
+                        t.count = n + 1;
+                        applied += 1;
+                    }
+                }
+            }
+        }
+    }
+}
