@@ -1,0 +1,2 @@
+-- Laws of the mount.
+pub mod Mounts

@@ -1,0 +1,2 @@
+-- What a mount shows, as the code answers it.
+pub mod Shown
