@@ -47,36 +47,18 @@ use Rattle.table.proofs.fill.Symbol.{name as #table·fill}
 abbrev pub Fill : {M : Type 1} (𝓤 : URA M) (H : Heap 𝓤) (A : Atoms 𝓤) (mem : Memory → SProp 𝓤) (run : Routine → Fun 𝓤) → Contract 𝓤
 Fill 𝓤 H A mem run = tripleOf 𝓤 H A fill.signature (fill.spec 𝓤 H A mem run)
 
-module _ {M : Type 1} (𝓤 : URA M) (H : Heap 𝓤) (A : Atoms 𝓤) (W : Given 𝓤 H A) (mem : Memory → SProp 𝓤) (run : Routine
-    → Fun 𝓤) (b o : ℕ) (ys all : List Record) (n : ℕ) where
+module _ {M : Type 1} (𝓤 : URA M) (H : Heap 𝓤) (A : Atoms 𝓤) (W : Given 𝓤 H A) (mem : Memory → SProp 𝓤)
+    (run : Routine → Fun 𝓤) (b o : ℕ) (ys all : List Record) (n : ℕ) where
   -- what `fill`'s triple binds outside: the table lent again for the lifetime ν, under the name δ
   abbrev to-fill : ℕ → GName → Fill 𝓤 H A mem run .Ghost
-  to-fill ν δ = (
-    (
-      (ν ∷ [], tt),
-      (fullShare, tt),
-      tt,
-      (tab b o δ ys, (all, (n, tt))),
-      (
-        sliceVal (b, o) (length ys) ∷ [],
-        (
-          va all ∷ [],
-          (
-            vint w64 n
-                ∷ [],
-            tt,
-          ),
-        ),
-      ),
-    ),
-    tt,
-  )
+  to-fill ν δ =
+      (((ν ∷ [], tt), (fullShare, tt), tt, (tab b o δ ys, (all, (n, tt))), (sliceVal (b, o) (length ys) ∷ [], (va all ∷ [], (vint w64 n ∷ [], tt)))), tt)
 
   goes : (ν : ℕ) (δ : GName) → n < 2 ^ 64 → Is (Array T.the-row 256) all (va all ∷ []) → (n ≤ length ys) × (n ≤ 256)
       → ent 𝓤 (sep 𝓤 (A .lft (ν ∷ []) fullShare) (sem 𝓤 H A (Table (ν ∷ []) b o δ (length ys) ys))) (Fill 𝓤 H A mem run .pre (to-fill ν δ))
   goes ν δ gn gall within =
-      qed W (‵ (flft (ν ∷ []) fullShare) ∷ ‵ (Table (ν ∷ []) b o δ (length ys) ys) ∷ []) ∵ says ! within $ nothing ! $ move ! (1 ∷ 0 ∷ []) $ join ! $ frame ! $
-      nothing ! $ owned ! usize (Is usize) (uint-makes 𝓤 H A W w64) n _ (refl, gn) $ fjoin ! $
+      qed W (‵ (flft (ν ∷ []) fullShare) ∷ ‵ (Table (ν ∷ []) b o δ (length ys) ys) ∷ []) ∵ says ! within $ nothing ! $ move ! (1 ∷ 0 ∷ []) $ join ! $
+      frame ! $ nothing ! $ owned ! usize (Is usize) (uint-makes 𝓤 H A W w64) n _ (refl, gn) $ fjoin ! $
       owned ! (Array T.the-row 256) (Is (Array T.the-row 256)) (array-makes 𝓤 H A W T.the-row (LL.makes T.the-type T′.the-plain 𝓤 H A) 256) all _ gall $
       fjoin ! $ move ! (1 ∷ 0 ∷ []) $ fjoin ! $ done !
 

@@ -77,8 +77,8 @@ module _ {M : Type 1} {𝓤 : URA M} {H : Heap 𝓤} {A : Atoms 𝓤} {K : Type 
       (ap (λ (m : ℕ). sliceVal (b, o) m ∷ []) (sym e), subst (Room T.the-row) (sym e) room) $ fjoin t $ rest)
 
   pub lend-own : K → Soaks G → (l : ℕ) (ys : List Record) (v : Val) → Is (Array T.the-row 256) ys (v ∷ [])
-      → ((ν : ℕ) (δ : GName) → Seq K W (‵ (flft (ν ∷ []) fullShare) ∷ ‵ (Table (ν ∷ []) l 0 δ (length ys) ys) ∷ ‵ (flent (ν
-      ∷ []) (Held T.the-row (length ys) l 0 δ)) ∷ Γ) G)
+      → ((ν : ℕ) (δ : GName)
+      → Seq K W (‵ (flft (ν ∷ []) fullShare) ∷ ‵ (Table (ν ∷ []) l 0 δ (length ys) ys) ∷ ‵ (flent (ν ∷ []) (Held T.the-row (length ys) l 0 δ)) ∷ Γ) G)
       → Seq K W (‵ (fat fullShare (tyArray T′.mir 256) l 0 v) ∷ Γ) G
   lend-own t z l ys v is rest =
       use1 W (‵ (row T.the-row fullShare ys l 0)) (array-out 𝓤 H A W T.the-row 256 ys l 0 v is tt (LL.makes T.the-type T′.the-plain 𝓤 H A)) $

@@ -44,30 +44,12 @@ use Rattle.table.proofs.put.Symbol.{name as #table·put}
 abbrev pub Put : {M : Type 1} (𝓤 : URA M) (H : Heap 𝓤) (A : Atoms 𝓤) (mem : Memory → SProp 𝓤) (run : Routine → Fun 𝓤) → Contract 𝓤
 Put 𝓤 H A mem run = tripleOf 𝓤 H A put.signature (put.spec 𝓤 H A mem run)
 
-module _ {M : Type 1} (𝓤 : URA M) (H : Heap 𝓤) (A : Atoms 𝓤) (W : Given 𝓤 H A) (mem : Memory → SProp 𝓤) (run : Routine
-    → Fun 𝓤) (b o : ℕ) (ys : List Record) (i : ℕ) (r : Record) where
+module _ {M : Type 1} (𝓤 : URA M) (H : Heap 𝓤) (A : Atoms 𝓤) (W : Given 𝓤 H A) (mem : Memory → SProp 𝓤)
+    (run : Routine → Fun 𝓤) (b o : ℕ) (ys : List Record) (i : ℕ) (r : Record) where
   -- what `put`'s triple binds outside: the table lent again for the lifetime ν, under the name δ
   abbrev to-put : ℕ → GName → Put 𝓤 H A mem run .Ghost
-  to-put ν δ = (
-    (
-      (ν ∷ [], tt),
-      (fullShare, tt),
-      tt,
-      (tab b o δ ys, (i, (r, tt))),
-      (
-        sliceVal (b, o) (length ys) ∷ [],
-        (
-          vint w64 i ∷ [],
-          (
-            T′.lowered r
-                ∷ [],
-            tt,
-          ),
-        ),
-      ),
-    ),
-    tt,
-  )
+  to-put ν δ =
+      (((ν ∷ [], tt), (fullShare, tt), tt, (tab b o δ ys, (i, (r, tt))), (sliceVal (b, o) (length ys) ∷ [], (vint w64 i ∷ [], (T′.lowered r ∷ [], tt)))), tt)
 
   goes : (ν : ℕ) (δ : GName) → i < 2 ^ 64 → Is T.the-row r (T′.lowered r ∷ [])
       → ent 𝓤 (sep 𝓤 (A .lft (ν ∷ []) fullShare) (sem 𝓤 H A (Table (ν ∷ []) b o δ (length ys) ys))) (Put 𝓤 H A mem run .pre (to-put ν δ))

@@ -86,8 +86,8 @@ array = tyArray T′.mir 256
 abbrev vals-of : Record → List Val
 vals-of = LL.vals T.the-type T′.the-laws
 
-module _ {M : Type 1} (𝓤 : URA M) (H : Heap 𝓤) (A : Atoms 𝓤) (W : Given 𝓤 H A) (mem : Memory → SProp 𝓤) (run : Routine
-    → Fun 𝓤) (κ : Lft) (q : Share) (b o : ℕ) (γ : GName) (ys all : List Record) (n : ℕ)
+module _ {M : Type 1} (𝓤 : URA M) (H : Heap 𝓤) (A : Atoms 𝓤) (W : Given 𝓤 H A) (mem : Memory → SProp 𝓤)
+    (run : Routine → Fun 𝓤) (κ : Lft) (q : Share) (b o : ℕ) (γ : GName) (ys all : List Record) (n : ℕ)
     (room : Room T.the-row (length ys)) (gall : Is (Array T.the-row 256) all (array-vals (LL.vals T.the-type T′.the-laws) all)) (gn : n < 2 ^ 64)
     (within : (n ≤ length ys) × (n ≤ 256)) where
   abbrev x : List Record → RefT (List Record)
@@ -148,14 +148,12 @@ module _ {M : Type 1} (𝓤 : URA M) (H : Heap 𝓤) (A : Atoms 𝓤) (W : Given
 
   exits : ent 𝓤 (⋆ 𝓤 H A (‵ (MutSlice (named 0) κ T.the-row .own (x (upto n)) (s ∷ [])) ∷ ‵ (flft κ q) ∷ [])) (Post vunit)
   exits =
-      qed W (‵ (MutSlice (named 0) κ T.the-row .own (x (upto n)) (s ∷ [])) ∷ ‵ (flft κ q) ∷ []) ∵
-      suffices ! _ (ends-at 𝓤 H A fill.ended stayed (fill.clauses 𝓤 H A mem run) W (((κ, tt), (q, tt), tt, a, vals), tt) vunit tt (upto n, (tt, (tt, tt)))
-      (zs-long, (tt, (tt, tt)))) $ says ! (sym (filled-is n all ys (in-all n (omega arith)))) $
-      nothing ! $ move ! (2 ∷ 0 ∷ []) $ join ! $ frame ! $
+      qed W (‵ (MutSlice (named 0) κ T.the-row .own (x (upto n)) (s ∷ [])) ∷ ‵ (flft κ q) ∷ []) ∵ suffices ! _
+      (ends-at 𝓤 H A fill.ended stayed (fill.clauses 𝓤 H A mem run) W (((κ, tt), (q, tt), tt, a, vals), tt) vunit tt (upto n, (tt, (tt, tt)))
+      (zs-long, (tt, (tt, tt)))) $ says ! (sym (filled-is n all ys (in-all n (omega arith)))) $ nothing ! $ move ! (2 ∷ 0 ∷ []) $ join ! $ frame ! $
       nothing ! $ owned ! usize (Is usize) (uint-makes 𝓤 H A W w64) n _ (refl, gn) $ fjoin ! $
       owned ! (Array T.the-row 256) (Is (Array T.the-row 256)) (array-makes 𝓤 H A W T.the-row (LL.makes T.the-type T′.the-plain 𝓤 H A) 256) all _ gall $
-      fjoin ! $ move ! (1 ∷ 0 ∷ []) $ fjoin ! $
-      feqI ! (List Val) (vunit ∷ []) (vunit ∷ []) refl $ move ! (1 ∷ 0 ∷ []) $ done !
+      fjoin ! $ move ! (1 ∷ 0 ∷ []) $ fjoin ! $ feqI ! (List Val) (vunit ∷ []) (vunit ∷ []) refl $ move ! (1 ∷ 0 ∷ []) $ done !
 
   abbrev Upto : Type 0
   Upto = (i : ℕ) × (i ≤ n)
@@ -202,42 +200,41 @@ module _ {M : Type 1} (𝓤 : URA M) (H : Heap 𝓤) (A : Atoms 𝓤) (W : Given
         tests ! (load ! (from ! (stop !)) (look ! 17 refl))
         (λ less. let l : i .0 < n = omega (arith, leb→le _ n less) in
         assigns ! (addr ! (from ! (fld ! refl (hop ! (look-in ! 26 (sub ! 0 refl (whole !))) (stop !))))) (from ! (stop !)) (init ! 13 refl (tt, tt)) $
-        assigns ! (agg ! (and-then ! (load ! (from ! (stop !)) (look ! 13 refl)) (and-then ! (load ! (from ! (fld ! refl (stop !)))
-        (look-in ! 26 (sub ! 1 refl (whole !)))) (no-more !)))) (from ! (stop !)) (init ! 11 refl (tt, (tt, (record { fits = room .0 }, tt)))) $
+        assigns ! (agg ! (and-then ! (load ! (from ! (stop !)) (look ! 13 refl))
+        (and-then ! (load ! (from ! (fld ! refl (stop !))) (look-in ! 26 (sub ! 1 refl (whole !)))) (no-more !)))) (from ! (stop !))
+        (init ! 11 refl (tt, (tt, (record { fits = room .0 }, tt)))) $
         assigns ! (bin ! (load ! (from ! (stop !)) (look ! 19 refl)) (lit ! tt) (record { fits = offset-fits (i .0) l })) (from ! (stop !))
         (init ! 9 refl (tt, record { fits = offset-fits (i .0) l })) $
         assigns ! (addr ! (from ! (stop !))) (from ! (stop !)) (init ! 7 refl (tt, tt)) $
-        assigns ! (bin ! (load ! (from ! (stop !)) (look ! 7 refl)) (load ! (from ! (stop !)) (look ! 9 refl)) tt) (from ! (stop !)) (init ! 5 refl (tt, tt)) $
-        rewrite ! 5 (λ (p : ℕ). ‵ (fat fullShare tyPtr l₁₂ 0 (vptr l₄ p))) (sym (place-is 56 0 (i .0))) refl $
+        assigns ! (bin ! (load ! (from ! (stop !)) (look ! 7 refl)) (load ! (from ! (stop !)) (look ! 9 refl)) tt) (from ! (stop !))
+        (init ! 5 refl (tt, tt)) $ rewrite ! 5 (λ (p : ℕ). ‵ (fat fullShare tyPtr l₁₂ 0 (vptr l₄ p))) (sym (place-is 56 0 (i .0))) refl $
         -- an element is taken out of the array, read, and put back
-        move ! (2 ∷ []) $ elem-out ! T.the-row (Is T.the-row) (shows 𝓤 H A T.the-row) vals-of (LL.tells T.the-type T′.the-laws) fullShare all (i .0) noRecord
-        l₄ 0 (below-all (i .0) l) (λ g.
+        move ! (2 ∷ []) $ elem-out ! T.the-row (Is T.the-row) (shows 𝓤 H A T.the-row) vals-of (LL.tells T.the-type T′.the-laws) fullShare all
+        (i .0) noRecord l₄ 0 (below-all (i .0) l) (λ g.
         assigns ! (of-opd ! (load ! (from ! (hop ! (look ! 7 refl) (stop !))) (look-raw ! 0 refl))) (from ! (stop !))
         (init ! 5 refl (LL.lawful T.the-type T′.the-laws 𝓤 H A W .typed (elem i) _ g .0)) $
         elem-back ! T.the-row fullShare all (i .0) noRecord (T′.lowered (elem i) ∷ []) l₄ 0 (below-all (i .0) l) $ move ! (1 ∷ 2 ∷ []) $
         puts ! mem run (fmOf 𝓤 H (W .laws) 𝓣) known κ q γ b o (length ys) (upto (i .0)) (i .0) (elem i) (same-long (i .0) (i .1)) room (i-fits (i .0) l) g
-        (λ i₀ i₁. and-then ! (load ! (from ! (stop !)) (look ! 11 refl)) (and-then ! (load ! (from ! (stop !)) (look ! 19 refl))
-        (and-then ! (load ! (from ! (stop !)) (look ! 3 refl)) (no-more !)))) $
-        land ! (from ! (stop !)) (init ! 15 refl (tt, tt)) $
-        rewrite ! 0 (λ (l : List Record). ‵ (MutSlice (named 0) κ T.the-row .own (x l) (s
-        ∷ []))) (mixed-more (i .0) all ys noRecord (below-all (i .0) l) (below-table (i .0) l) ∙ ap upto (sym (add-one (i .0)))) refl $
+        (λ i₀ i₁. and-then ! (load ! (from ! (stop !)) (look ! 11 refl))
+        (and-then ! (load ! (from ! (stop !)) (look ! 19 refl)) (and-then ! (load ! (from ! (stop !)) (look ! 3 refl)) (no-more !)))) $
+        land ! (from ! (stop !)) (init ! 15 refl (tt, tt)) $ rewrite ! 0 (λ (l : List Record). ‵ (MutSlice (named 0) κ T.the-row .own (x l) (s ∷ [])))
+        (mixed-more (i .0) all ys noRecord (below-all (i .0) l) (below-table (i .0) l) ∙ ap upto (sym (add-one (i .0)))) refl $
         assigns-last ! (bin ! (load ! (from ! (stop !)) (look ! 19 refl)) (lit ! tt) (record { fits = next-fits (i .0) l })) (from ! (stop !))
-        (store ! 19 refl (tt, record { fits = next-fits (i .0) l })) $
-        forget ! 3 refl $ forget ! 5 refl $ forget ! 7 refl $ forget ! 9 refl $ forget ! 11 refl $ forget ! 13 refl $ forget ! 15 refl $ forget ! 17 refl $
+        (store ! 19 refl (tt, record { fits = next-fits (i .0) l })) $ forget ! 3 refl $ forget ! 5 refl $ forget ! 7 refl $ forget ! 9 refl $
+        forget ! 11 refl $ forget ! 13 refl $ forget ! 15 refl $ forget ! 17 refl $
         again ! Nearer At i (i .0 + 1, add-one-le l) (add-one-dec n (i .0) l)))
         -- the loop is left, and the array is whole again
-        (λ over. exec ! C Λ En mir.t-4 (atRet En Post) $
-        rewrite ! 0 (λ (j : ℕ). ‵ (MutSlice (named 0) κ T.the-row .own (x (upto j)) (s ∷ []))) (le-antisymm (i .1) (nltb→le (i .0) n over)) refl $
-        move ! (2 ∷ []) $ use1 W (‵ (fat fullShare array l₄ 0 v)) (array-in 𝓤 H A W T.the-row 256 all l₄ 0 v gall vals-of (LL.tells T.the-type T′.the-laws)) $
+        (λ over.
+        exec ! C Λ En mir.t-4 (atRet En Post) $ rewrite ! 0 (λ (j : ℕ). ‵ (MutSlice (named 0) κ T.the-row .own (x (upto j)) (s ∷ [])))
+        (le-antisymm (i .1) (nltb→le (i .0) n over)) refl $ move ! (2 ∷ []) $ use1 W (‵ (fat fullShare array l₄ 0 v))
+        (array-in 𝓤 H A W T.the-row 256 all l₄ 0 v gall vals-of (LL.tells T.the-type T′.the-laws)) $
         -- [_4; what the table owns; the token; _13; …; _12; …; _11; …; _10; …; _9; …; _8; …; _7; …; _6; …; _5; …; _4's …; _3; …; _2; …; _1; …; room for _0; …]
         assigns ! (of-opd ! (unit-lit !)) (from ! (stop !)) (init ! 28 refl (tt, tt)) $
         returns ! (look ! 28 refl) $ forget ! 0 refl $ forget ! 17 refl $ forget ! 19 refl $ forget ! 22 refl $ forget ! 24 refl $ forget ! 26 refl $
-        forget ! 28 refl $
-        move ! (28 ∷ 29 ∷ []) $ free1 ! $ move ! (26 ∷ 27 ∷ []) $ free1 ! $ move ! (24 ∷ 25 ∷ []) $ free1 ! $ move ! (22 ∷ 23 ∷ []) $ free1 ! $
-        move ! (0 ∷ 21 ∷ []) $ free1 ! $ move ! (18 ∷ 19 ∷ []) $ free1 ! $ move ! (16 ∷ 17 ∷ []) $ free1 ! $
-        move ! (14 ∷ 15 ∷ []) $ free1 ! $ move ! (12 ∷ 13 ∷ []) $ free1 ! $ move ! (10 ∷ 11 ∷ []) $ free1 ! $ move ! (8 ∷ 9 ∷ []) $ free1 ! $
-        move ! (6 ∷ 7 ∷ []) $ free1 ! $ move ! (4 ∷ 5 ∷ []) $ free1 ! $ move ! (2 ∷ 3 ∷ []) $ free1 ! $ free0 ! $
-        keep ! (0 ∷ 1 ∷ []) $ by ! exits)
+        forget ! 28 refl $ move ! (28 ∷ 29 ∷ []) $ free1 ! $ move ! (26 ∷ 27 ∷ []) $ free1 ! $ move ! (24 ∷ 25 ∷ []) $ free1 ! $ move ! (22 ∷ 23 ∷ []) $
+        free1 ! $ move ! (0 ∷ 21 ∷ []) $ free1 ! $ move ! (18 ∷ 19 ∷ []) $ free1 ! $ move ! (16 ∷ 17 ∷ []) $ free1 ! $ move ! (14 ∷ 15 ∷ []) $ free1 ! $
+        move ! (12 ∷ 13 ∷ []) $ free1 ! $ move ! (10 ∷ 11 ∷ []) $ free1 ! $ move ! (8 ∷ 9 ∷ []) $ free1 ! $ move ! (6 ∷ 7 ∷ []) $ free1 ! $
+        move ! (4 ∷ 5 ∷ []) $ free1 ! $ move ! (2 ∷ 3 ∷ []) $ free1 ! $ free0 ! $ keep ! (0 ∷ 1 ∷ []) $ by ! exits)
       where
         elem : Upto → Record
         elem i = getD all (i .0) noRecord
@@ -246,10 +243,11 @@ module _ {M : Type 1} (𝓤 : URA M) (H : Heap 𝓤) (A : Atoms 𝓤) (W : Given
   walk : (𝓣 : Tables 𝓤 H) → Triple 𝓤 (𝓣 .C #table·put) (Put 𝓤 H A mem run)
       → ent 𝓤 (onEntry 𝓤 H A fill.signature (κ, tt) (q, tt) a vals) (WpFn 𝓤 H (𝓣 .C) (𝓣 .Λ) code.function (s ∷ v ∷ vint w64 n ∷ []) Post)
   walk 𝓣 known =
-      qed W ((‵ (flft κ q) ⊛ ‵ ftrue) ∷ ‵ (owns (MutSlice (named 0) κ T.the-row ∷ Array T.the-row 256 ∷ usize ∷ []) a vals)
-      ∷ []) ∵ enter ! (𝓣 .C) (𝓣 .Λ) code.function (s ∷ v ∷ vint w64 n ∷ []) _ $
-      alloc1 ! (λ l₀. alloc1 ! (λ l₁. alloc1 ! (λ l₂. alloc1 ! (λ l₃. alloc1 ! (λ l₄. alloc1 ! (λ l₅. alloc1 ! (λ l₆. alloc1 ! (λ l₇. alloc1 ! (λ l₈. alloc1
-      ! (λ l₉. alloc1 ! (λ l₁₀. alloc1 ! (λ l₁₁. alloc1 ! (λ l₁₂. alloc1 ! (λ l₁₃. alloc0 ! $ params1 ! $
+      qed W ((‵ (flft κ q) ⊛ ‵ ftrue) ∷ ‵ (owns (MutSlice (named 0) κ T.the-row ∷ Array T.the-row 256 ∷ usize ∷ []) a vals) ∷ []) ∵
+      enter ! (𝓣 .C) (𝓣 .Λ) code.function (s ∷ v ∷ vint w64 n ∷ []) _ $ alloc1 !
+      (λ l₀. alloc1 ! (λ l₁. alloc1 ! (λ l₂. alloc1 ! (λ l₃. alloc1 !
+      (λ l₄. alloc1 ! (λ l₅. alloc1 ! (λ l₆. alloc1 ! (λ l₇. alloc1 !
+      (λ l₈. alloc1 ! (λ l₉. alloc1 ! (λ l₁₀. alloc1 ! (λ l₁₁. alloc1 ! (λ l₁₂. alloc1 ! (λ l₁₃. alloc0 ! $ params1 ! $
       pass1 ! (init ! 24 refl (tt, (tt, (record { fits = room .0 }, tt)))) $ pass1 ! (init ! 22 refl v-typed) $
       pass1 ! (init ! 20 refl (tt, record { fits = gn })) $ pass0 ! $
       assigns ! (of-opd ! (load ! (from ! (stop !)) (look ! 22 refl))) (from ! (stop !)) (init ! 18 refl v-typed) $
@@ -268,15 +266,13 @@ module _ {M : Type 1} (𝓤 : URA M) (H : Heap 𝓤) (A : Atoms 𝓤) (W : Given
 module _ {M : Type 1} (𝓤 : URA M) (H : Heap 𝓤) (A : Atoms 𝓤) (W : Given 𝓤 H A) (mem : Memory → SProp 𝓤) (run : Routine → Fun 𝓤) where
   fill-walks : (𝓣 : Tables 𝓤 H) → Triple 𝓤 (𝓣 .C #table·put) (Put 𝓤 H A mem run)
       → Walks 𝓤 H A fill.ended stayed (WpFn 𝓤 H (𝓣 .C) (𝓣 .Λ) code.function) (fill.clauses 𝓤 H A mem run)
-  fill-walks 𝓣 known = walked 𝓤 H A fill.ended stayed (fill.clauses 𝓤 H A mem run) (WpFn 𝓤 H (𝓣 .C) (𝓣 .Λ) code.function)
-      (λ κs. (slice-vals, (array-vals vals-of, (uint-vals w64, tt)))) (λ κs. (
-        mut-slice-tells (named 0)
-            (κs .0) T.the-row,
-        (array-tells T.the-row vals-of (LL.tells T.the-type T′.the-laws) 256, (uint-tells w64, tt)),
-      ))
-      (λ κs qs bounds a g are. needs 𝓤 ((a .1 .1 .0 ≤ length (a .0 .now)) × (a .1 .1 .0 ≤ 256)) _ (λ within.
-      walk 𝓤 H A W mem run (κs .0) (qs .0) (a .0 .ptr .0) (a .0 .ptr .1) (a .0 .name) (a .0 .now) (a .1 .0) (a .1 .1 .0) (are .0 .0 .1) (are .1 .0)
-      (are .1 .1 .0 .1) within 𝓣 known))
+  fill-walks 𝓣 known =
+      walked 𝓤 H A fill.ended stayed (fill.clauses 𝓤 H A mem run) (WpFn 𝓤 H (𝓣 .C) (𝓣 .Λ) code.function)
+      (λ κs. (slice-vals, (array-vals vals-of, (uint-vals w64, tt))))
+      (λ κs. (mut-slice-tells (named 0) (κs .0) T.the-row, (array-tells T.the-row vals-of (LL.tells T.the-type T′.the-laws) 256, (uint-tells w64, tt))))
+      (λ κs qs bounds a g are. needs 𝓤 ((a .1 .1 .0 ≤ length (a .0 .now)) × (a .1 .1 .0 ≤ 256)) _
+      (λ within. walk 𝓤 H A W mem run (κs .0) (qs .0) (a .0 .ptr .0) (a .0 .ptr .1) (a .0 .name) (a .0 .now) (a .1 .0) (a .1 .1 .0) (are .0 .0 .1)
+      (are .1 .0) (are .1 .1 .0 .1) within 𝓣 known))
 
 fill-meets : {M : Type 1} (𝓤 : URA M) (H : Heap 𝓤) (A : Atoms 𝓤) → Given 𝓤 H A → (mem : Memory → SProp 𝓤) (run : Routine → Fun 𝓤) (𝓣 : Tables 𝓤 H)
     → Triple 𝓤 (𝓣 .C #table·put) (Put 𝓤 H A mem run)
@@ -286,13 +282,10 @@ fill-meets 𝓤 H A W mem run 𝓣 known =
       goes-slice 𝓤 H A W 1 0 tt (plain (λ _. T.the-row)),
       (
         goes-silent 𝓤 H A W 1 (arrayOf (plain (λ _. T.the-row)) 256) yes stay-all (λ κs x f. refl),
-        (
-          goes-none 𝓤 H A W 1 (λ _. usize) yes (λ κs x f. refl),
-          tt,
-        ),
+        (goes-none 𝓤 H A W 1 (λ _. usize) yes (λ κs x f. refl), tt),
       ),
-    ) (fill.clauses 𝓤 H A mem run)
-    (WpFn 𝓤 H (𝓣 .C) (𝓣 .Λ) code.function) (WpFn-mono 𝓤 H (W .laws) 𝓣 code.function) (fill-walks 𝓤 H A W mem run 𝓣 known)
+    ) (fill.clauses 𝓤 H A mem run) (WpFn 𝓤 H (𝓣 .C) (𝓣 .Λ) code.function)
+    (WpFn-mono 𝓤 H (W .laws) 𝓣 code.function) (fill-walks 𝓤 H A W mem run 𝓣 known)
 
 pub fill-spec : {M : Type 1} → stated.statement M
 unfolding code.routine tablesOf

@@ -1,0 +1,2 @@
+-- The bytes of a file as pieces.
+pub mod Pieces
