@@ -22,11 +22,11 @@ use Rattle.tree.proofs.Laws.{files-length, found-slot, found-path, found-alter,
 use Rattle.runs.specs.Runs.{spanAt, vacant, gather, Live, Parts, Placed, Owned, Rising}
 use Rattle.runs.proofs.Slots.{slot-in}
 use Rattle.runs.proofs.Laws.{gather-open, open-placed, open-owned, gather-close, close-placed, close-owned, start-placed, start-owned, start-gather}
-use Rattle.replay.specs.declared.room.Room.{Room}
-use Rattle.replay.specs.Room as rooms
-use Rattle.replay.specs.Room.{Known, Laid}
+use Rattle.change.specs.declared.room.Room.{Room}
+use Rattle.change.specs.Room as rooms
+use Rattle.change.specs.Room.{Known, Laid}
 use Rattle.replay.specs.Replay.{pathAt, Held}
-use Rattle.replay.proofs.Steps.{others-twice}
+use Rattle.change.proofs.Steps.{others-twice}
 
 -- ---- paths
 

@@ -1,7 +1,4 @@
--- Laws of replay.
-pub mod Edits
-pub mod Steps
-pub mod Rooms
+-- Laws of replay: the rest of the log told to a tree, the tree and its rows kept in order, and each turn.
 pub mod Onward
 pub mod Holds
 pub mod Turns

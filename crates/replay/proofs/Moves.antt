@@ -29,15 +29,15 @@ use Rattle.tree.specs.Tree.{recordAt, live, files, Kept, Rising, put, inserted,
 use Rattle.tree.specs.Tree as trees
 use Rattle.tree.proofs.Laws.{files-length, kept-rising, found-look, found-slot, found-path, found-alter, found-delete, gap-look, gap-insert, slot-there}
 use Rattle.runs.specs.Runs.{gather, vacant, Live}
-use Rattle.replay.specs.declared.edit.Edit.{Edit}
-use Rattle.replay.specs.declared.edit.Edit.the-variants.{Ignored, Changed, Removed}
-use Rattle.replay.specs.declared.edit.Made.{Made}
-use Rattle.replay.specs.declared.edit.Made.the-variants.{File, Nothing}
-use Rattle.replay.specs.declared.room.Room.{Room}
-use Rattle.replay.specs.Edit.{subject, editOf, revised, newborn, stampedBy}
-use Rattle.replay.specs.Room.{Stands, Known, Laid, Turns, Some}
+use Rattle.change.specs.declared.edit.Edit.{Edit}
+use Rattle.change.specs.declared.edit.Edit.the-variants.{Ignored, Changed, Removed}
+use Rattle.change.specs.declared.edit.Made.{Made}
+use Rattle.change.specs.declared.edit.Made.the-variants.{File, Nothing}
+use Rattle.change.specs.declared.room.Room.{Room}
+use Rattle.change.specs.Edit.{subject, editOf, revised, newborn, stampedBy}
+use Rattle.change.specs.Room.{Stands, Known, Laid, Turns, Some}
 use Rattle.replay.specs.Replay.{pathAt, Held}
-use Rattle.replay.proofs.Steps.{ignored-there, changed-there, changed-records, removed-full, removed-there, removed-records, removed-extents, unborn, no-parent, no-directory, born-there, born-path, born-records, born-extents, revised-path, stamped-path, alter-absent}
+use Rattle.change.proofs.Steps.{ignored-there, changed-there, changed-records, removed-full, removed-there, removed-records, removed-extents, unborn, no-parent, no-directory, born-there, born-path, born-records, born-extents, revised-path, stamped-path, alter-absent}
 use Rattle.replay.proofs.Holds.{found-stands, found-known, held-put, held-same, removed-gather, held-removed, free-low, inserted-gather, held-inserted, live-so}
 use Rattle.replay.proofs.Turns.{Going, Heard, goes-ignored, goes-applied, full-extents, full-records}
 

@@ -31,7 +31,7 @@ use Rattle.tree.specs.declared.Tree.{Tree}
 use Rattle.tree.specs.Tree.{live, files, Kept}
 use Rattle.tree.proofs.Laws.{files-length}
 use Rattle.runs.specs.Runs.{gather, vacant}
-use Rattle.replay.specs.declared.room.Room.{Room}
+use Rattle.change.specs.declared.room.Room.{Room}
 use Rattle.replay.specs.declared.Start.{Start}
 use Rattle.replay.specs.declared.Start.the-variants.{At, Nowhere}
 use Rattle.replay.specs.Replay.{shape, Held, Begins}

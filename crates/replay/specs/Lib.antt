@@ -1,4 +1,2 @@
--- What a message does to the files, and what replay keeps.
-pub mod Edit
-pub mod Room
+-- What replay keeps, and what it answers.
 pub mod Replay

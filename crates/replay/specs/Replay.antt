@@ -14,7 +14,7 @@ use Rattle.meaning.specs.Replay as meaning
 use Rattle.tree.specs.declared.Tree.{Tree}
 use Rattle.tree.specs.Tree.{recordAt, live, files, Kept}
 use Rattle.runs.specs.Runs.{gather, Placed, Owned}
-use Rattle.replay.specs.declared.room.Room.{Room}
+use Rattle.change.specs.declared.room.Room.{Room}
 use Rattle.replay.specs.declared.Said.{Said}
 use Rattle.replay.specs.declared.Said.the-variants.{Whole, Refused}
 use Rattle.replay.specs.declared.Replayed.{Replayed}

@@ -9,20 +9,17 @@ ghost use Rattle.meaning.specs.Replay.{replay as theReplay};
 ghost use Rattle.plan.specs.Select.{lent};
 ghost use Rattle.log.specs.Cursor.{Ready};
 ghost use Rattle.replay.specs.Replay.{answerOf, Begins, WholeHeld};
-use edit::Edit;
-use edit::Made;
+use change::Edit;
+use change::Made;
+use change::Room;
 use log::Cursor;
 use log::Turn;
 use meaning::Address;
 use meaning::Geometry;
 use meaning::Plan;
 use meaning::Refusal;
-use room::Room;
 use tree::Found;
 use tree::Tree;
-
-mod edit;
-mod room;
 
 /// How the replay ended: at the log's end, or with 7, 8 or 9.
 pub enum Said {
@@ -113,16 +110,16 @@ pub fn replay(
             Turn::Told(m, a, d) => {
                 c = d;
                 let n = t.count;
-                match tree::find(&t.keys, n, edit::path_of(m)) {
+                match tree::find(&t.keys, n, change::path_of(m)) {
                     Found::At(i) => {
                         let s = t.slots[i] as usize;
                         let f = t.records[s];
-                        match edit::edit_of(m, f) {
+                        match change::edit_of(m, f) {
                             Edit::Ignored => {
-                                ignored += 1;
+                                ignored += 1; // "A message failing its test is ignored and counted."
                             }
                             Edit::Changed => {
-                                room = room::extents_after(
+                                room = change::extents_after(
                                     spans,
                                     rows,
                                     scratch,
@@ -141,7 +138,7 @@ pub fn replay(
                                         said: Said::Refused(Refusal::Full(a)),
                                     };
                                 }
-                                t.records[s] = edit::revised(m, f);
+                                t.records[s] = change::revised(m, f);
                                 applied += 1;
                             }
                             Edit::Removed => {
@@ -151,7 +148,7 @@ pub fn replay(
                                         continue;
                                     }
                                 }
-                                room = room::extents_after(
+                                room = change::extents_after(
                                     spans,
                                     rows,
                                     scratch,
@@ -169,12 +166,12 @@ pub fn replay(
                                     continue;
                                 };
                                 let h = t.slots[j] as usize;
-                                t.records[h] = edit::stamped_by(m, t.records[h]);
+                                t.records[h] = change::stamped_by(m, t.records[h]);
                             }
                         }
                     }
                     Found::Gap(j) => {
-                        let Made::File(q) = edit::made_by(m) else {
+                        let Made::File(q) = change::made_by(m) else {
                             ignored += 1;
                             continue;
                         };

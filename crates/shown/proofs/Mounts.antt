@@ -42,7 +42,7 @@ use Rattle.log.proofs.Sizes.{Sizes, sizes}
 use Rattle.replay.specs.declared.Said.{Said}
 use Rattle.replay.specs.declared.Said.the-variants.{Whole, Refused}
 use Rattle.replay.specs.declared.Replayed.{Replayed}
-use Rattle.replay.specs.declared.room.Room.{Room}
+use Rattle.change.specs.declared.room.Room.{Room}
 use Rattle.replay.specs.Replay.{answerBy, shape, answerOf, Held, HeldBy, WholeHeld}
 use Rattle.used.specs.declared.Erase.{Erase}
 use Rattle.used.specs.declared.Missing.{Missing}

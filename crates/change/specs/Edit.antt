@@ -1,0 +1,56 @@
+-- What a message would do, by the file that bears its path.
+use Prim.Native.Nat.{ℕ}
+use mathlib.Core.Bool.{Bool}
+use Rattle.meaning.specs.declared.Message.{Message}
+use Rattle.meaning.specs.declared.Message.the-variants.{Create, Remove, Truncate, Write, Wstat}
+use Rattle.meaning.specs.declared.Record.{Record}
+use Rattle.base.specs.Choice.{ifTrue, ifEq}
+use Rattle.meaning.specs.Replay.{applies, created, truncated, written, restated, stamp}
+use Rattle.tree.specs.Judge.{judgeTruncate, judgeWrite, judgeWstat}
+use Rattle.change.specs.declared.edit.Edit.{Edit}
+use Rattle.change.specs.declared.edit.Edit.the-variants.{Ignored, Changed, Removed}
+use Rattle.change.specs.declared.edit.Made.{Made}
+use Rattle.change.specs.declared.edit.Made.the-variants.{File, Nothing}
+
+-- the path of the file that a message speaks of
+unfoldable pub subject : Message → ℕ
+subject (Create parent perm path mtime cvers name uid gid) = path
+subject (Remove path mtime muid) = path
+subject (Truncate path mtime cvers muid) = path
+subject (Write run mtime cvers muid) = run .path
+subject (Wstat path name perm uid gid mtime muid) = path
+
+unfoldable pub changedIf : Bool → Edit
+changedIf b = ifTrue b Changed Ignored
+
+-- where the file f of that path is there; of a remove, whether f is empty is not asked yet
+unfoldable pub editOf : Message → Record → Edit
+editOf (Create parent perm path mtime cvers name uid gid) f = Ignored
+editOf (Remove path mtime muid) f = ifEq path 0 Ignored Removed
+editOf (Truncate path mtime cvers muid) f = changedIf (applies (judgeTruncate f))
+editOf (Write run mtime cvers muid) f = changedIf (applies (judgeWrite f cvers))
+editOf (Wstat path name perm uid gid mtime muid) f = changedIf (applies (judgeWstat path f name perm))
+
+-- the record then
+unfoldable pub revised : Message → Record → Record
+revised (Create parent perm path mtime cvers name uid gid) f = f
+revised (Remove path mtime muid) f = f
+revised (Truncate path mtime cvers muid) f = truncated mtime cvers muid f
+revised (Write run mtime cvers muid) f = written run mtime muid f
+revised (Wstat path name perm uid gid mtime muid) f = restated name perm uid gid mtime muid f
+
+-- the record of a new file, where there is none of that path
+unfoldable pub newborn : Message → Made
+newborn (Create parent perm path mtime cvers name uid gid) = File (created parent perm path mtime cvers name uid gid)
+newborn (Remove path mtime muid) = Nothing
+newborn (Truncate path mtime cvers muid) = Nothing
+newborn (Write run mtime cvers muid) = Nothing
+newborn (Wstat path name perm uid gid mtime muid) = Nothing
+
+-- what the parent takes of a remove
+unfoldable pub stampedBy : Message → Record → Record
+stampedBy (Create parent perm path mtime cvers name uid gid) f = f
+stampedBy (Remove path mtime muid) f = stamp mtime muid f
+stampedBy (Truncate path mtime cvers muid) f = f
+stampedBy (Write run mtime cvers muid) f = f
+stampedBy (Wstat path name perm uid gid mtime muid) f = f
