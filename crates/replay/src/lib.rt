@@ -74,6 +74,8 @@ pub fn replay(
     let mut room = Room { bump: 0, used: 0 };
     let mut applied: u64 = 0;
     let mut ignored: u64 = 0;
+    // Where a path stood last, by its low bits: a guess that is tested before it is used.
+    let mut near = [0u32; 256];
     let Start::At(first) = begin(g, tags, paths, contents, p) else {
         return Replayed {
             tree: t,
@@ -110,8 +112,11 @@ pub fn replay(
             Turn::Told(m, a, d) => {
                 c = d;
                 let n = t.count;
-                match tree::find(&t.keys, n, change::path_of(m)) {
+                let path = change::path_of(m);
+                let low = (path % 256) as usize;
+                match tree::find_near(&t.keys, n, path, near[low]) {
                     Found::At(i) => {
+                        near[low] = i as u32;
                         let s = t.slots[i] as usize;
                         let f = t.records[s];
                         match change::edit_of(m, f) {

@@ -57,3 +57,7 @@ module _ (ks : List ℕ) (n p : ℕ) (r : Rising ks n) where
 
     pub past-all : n ≤ lo → Stands ks n p (Gap lo)
     past-all h = (omega (arith, w .fits), (w .lower, λ a b u. omega arith))
+
+-- a key is found where it stands
+pub near-hit : (ks : List ℕ) (n p i : ℕ) → Rising ks n → i < n → getD ks i 0 ≡ p → Stands ks n p (At i)
+near-hit ks n p i r h e = (h, (e, λ a l. omega (arith, r a i l h)))

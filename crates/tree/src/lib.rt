@@ -30,6 +30,7 @@ pub use keys::Found;
 pub use keys::close_key;
 pub use keys::close_slot;
 pub use keys::find;
+pub use keys::find_near;
 pub use keys::open_key;
 pub use keys::open_slot;
 

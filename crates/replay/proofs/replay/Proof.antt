@@ -15,11 +15,11 @@ use Rattle.replay.proofs.replay.Statement.{statement}
 use Rattle.replay.proofs.replay.Tie as tie
 
 abbrev Inv-loop : tie.InvT-loop
-Inv-loop g tags paths contents p spans₀ rows₀ scratch₀ t₀ root room₀ applied₀ ignored₀ c₀ spans rows scratch t room applied ignored c =
+Inv-loop g tags paths contents p spans₀ rows₀ scratch₀ t₀ root room₀ applied₀ ignored₀ near₀ c₀ spans rows scratch t room applied ignored near c =
     Going g (lent tags paths contents) p t spans rows room applied ignored c × (length scratch ≡ length scratch₀) × (1024 ≤ length scratch)
 
 abbrev μ-loop : tie.MeasureT-loop
-μ-loop g tags paths contents p spans₀ rows₀ scratch₀ t₀ root room₀ applied₀ ignored₀ c₀ spans rows scratch t room applied ignored c = left g p c
+μ-loop g tags paths contents p spans₀ rows₀ scratch₀ t₀ root room₀ applied₀ ignored₀ near₀ c₀ spans rows scratch t room applied ignored near c = left g p c
 
 fresh-requires : tie.Need-fresh-requires Inv-loop μ-loop
 fresh-requires c κs =
@@ -109,45 +109,55 @@ loop-again c =
     let next = c .before .d in let n = c .before .before .before .next in let l = c .before .before .before .before .loop in let k = l .inv .0 in
     (goes-on k (n .ensures .1) (next .given .1), l .inv .1, l .inv .2)
 
-find-requires : tie.Need-find-requires Inv-loop μ-loop
-find-requires c κs =
+find-near-requires : tie.Need-find-near-requires Inv-loop μ-loop
+find-near-requires c κs =
     let m = c .before .before .before .before .m in let c1 = c .before .before .before .before .before .before in let n = c1 .next in
     let l = c1 .before .loop in let k = l .inv .0 in let y = heard k (n .ensures .1) (m .given .1) in
     may-find k y
 
+cast-near : tie.Need-cast-near Inv-loop μ-loop
+cast-near c =
+    let i = c .before .i in let f = c .before .before .before .find-near in let c1 = c .before .before .before .before .before .before in let q = c1 .path-of in
+    let m = c1 .before .before .m in let n = c1 .before .before .before .before .next in let l = c1 .before .before .before .before .before .loop in
+    let k = l .inv .0 in let y = heard k (n .ensures .1) (m .given .1) in
+    omega (arith, at-low k y (f .ensures) (i .given .1) (q .ensures))
+
 mul-s : tie.Need-mul-s Inv-loop μ-loop
 mul-s c =
-    let i = c .before .i in let f = c .before .before .before .find in let q = c .before .before .before .before .path-of in
-    let c1 = c .before .before .before .before .before .before .before .before in let m = c1 .m in let n = c1 .before .before .next in
-    let l = c1 .before .before .before .loop in let k = l .inv .0 in let y = heard k (n .ensures .1) (m .given .1) in
+    let i = c .before .i in let f = c .before .before .before .find-near in let c1 = c .before .before .before .before .before .before in let q = c1 .path-of in
+    let m = c1 .before .before .m in let n = c1 .before .before .before .before .next in let l = c1 .before .before .before .before .before .loop in
+    let k = l .inv .0 in let y = heard k (n .ensures .1) (m .given .1) in
     omega (arith, at-low k y (f .ensures) (i .given .1) (q .ensures))
 
 element-copy-out-s : tie.Need-element-copy-out-s Inv-loop μ-loop
 element-copy-out-s c =
-    let i = c .before .i in let f = c .before .before .before .find in let q = c .before .before .before .before .path-of in
-    let c1 = c .before .before .before .before .before .before .before .before in let m = c1 .m in let n = c1 .before .before .next in
-    let l = c1 .before .before .before .loop in let k = l .inv .0 in let y = heard k (n .ensures .1) (m .given .1) in
+    let i = c .before .i in let f = c .before .before .before .find-near in let c1 = c .before .before .before .before .before .before in let q = c1 .path-of in
+    let m = c1 .before .before .m in let n = c1 .before .before .before .before .next in let l = c1 .before .before .before .before .before .loop in
+    let k = l .inv .0 in let y = heard k (n .ensures .1) (m .given .1) in
     at-low k y (f .ensures) (i .given .1) (q .ensures)
 
 cast-s : tie.Need-cast-s Inv-loop μ-loop
 cast-s c =
-    let i = c .before .before .i in let f = c .before .before .before .before .find in let q = c .before .before .before .before .before .path-of in
-    let c1 = c .before .before .before .before .before .before .before .before .before in let m = c1 .m in let n = c1 .before .before .next in
-    let l = c1 .before .before .before .loop in let k = l .inv .0 in let y = heard k (n .ensures .1) (m .given .1) in
+    let i = c .before .before .i in let f = c .before .before .before .before .find-near in
+    let c1 = c .before .before .before .before .before .before .before in let q = c1 .path-of in let m = c1 .before .before .m in
+    let n = c1 .before .before .before .before .next in let l = c1 .before .before .before .before .before .loop in let k = l .inv .0 in
+    let y = heard k (n .ensures .1) (m .given .1) in
     omega (arith, at-slot k y (f .ensures) (i .given .1) (q .ensures))
 
 mul-f : tie.Need-mul-f Inv-loop μ-loop
 mul-f c =
-    let i = c .before .before .i in let f = c .before .before .before .before .find in let q = c .before .before .before .before .before .path-of in
-    let c1 = c .before .before .before .before .before .before .before .before .before in let m = c1 .m in let n = c1 .before .before .next in
-    let l = c1 .before .before .before .loop in let k = l .inv .0 in let y = heard k (n .ensures .1) (m .given .1) in
+    let i = c .before .before .i in let f = c .before .before .before .before .find-near in
+    let c1 = c .before .before .before .before .before .before .before in let q = c1 .path-of in let m = c1 .before .before .m in
+    let n = c1 .before .before .before .before .next in let l = c1 .before .before .before .before .before .loop in let k = l .inv .0 in
+    let y = heard k (n .ensures .1) (m .given .1) in
     omega (arith, at-slot k y (f .ensures) (i .given .1) (q .ensures))
 
 element-copy-out-f : tie.Need-element-copy-out-f Inv-loop μ-loop
 element-copy-out-f c =
-    let i = c .before .before .i in let f = c .before .before .before .before .find in let q = c .before .before .before .before .before .path-of in
-    let c1 = c .before .before .before .before .before .before .before .before .before in let m = c1 .m in let n = c1 .before .before .next in
-    let l = c1 .before .before .before .loop in let k = l .inv .0 in let y = heard k (n .ensures .1) (m .given .1) in
+    let i = c .before .before .i in let f = c .before .before .before .before .find-near in
+    let c1 = c .before .before .before .before .before .before .before in let q = c1 .path-of in let m = c1 .before .before .m in
+    let n = c1 .before .before .before .before .next in let l = c1 .before .before .before .before .before .loop in let k = l .inv .0 in
+    let y = heard k (n .ensures .1) (m .given .1) in
     at-slot k y (f .ensures) (i .given .1) (q .ensures)
 
 add-ignored : tie.Need-add-ignored Inv-loop μ-loop
@@ -166,16 +176,17 @@ loop-less-2 c =
 loop-again-2 : tie.Need-loop-again-2 Inv-loop μ-loop
 loop-again-2 c =
     let enum-told3 = c .enum-told3 in let e = c .before .before .edit-of in let c1 = c .before .before .before .before .before .before in let i = c1 .i in
-    let f = c1 .before .before .find in let q = c1 .before .before .before .path-of in let c2 = c1 .before .before .before .before .before .before .before in
-    let m = c2 .m in let n = c2 .before .before .next in let l = c2 .before .before .before .loop in let k = l .inv .0 in
-    let y = heard k (n .ensures .1) (m .given .1) in
+    let f = c1 .before .before .find-near in let q = c1 .before .before .before .before .before .path-of in
+    let c2 = c1 .before .before .before .before .before .before .before in let m = c2 .m in let n = c2 .before .before .next in
+    let l = c2 .before .before .before .loop in let k = l .inv .0 in let y = heard k (n .ensures .1) (m .given .1) in
     (at-ignored k y (f .ensures) (i .given .1) (q .ensures) (e .ensures) (enum-told3 .given .1) (omega arith), l .inv .1, l .inv .2)
 
 extents-after-requires : tie.Need-extents-after-requires Inv-loop μ-loop
 extents-after-requires c κs =
-    let c1 = c .before .before .before .before .before .before .before .before .before .before .before in let i = c1 .i in let f = c1 .before .before .find in
-    let q = c1 .before .before .before .path-of in let c2 = c1 .before .before .before .before .before .before .before in let m = c2 .m in
-    let n = c2 .before .before .next in let l = c2 .before .before .before .loop in let k = l .inv .0 in let y = heard k (n .ensures .1) (m .given .1) in
+    let c1 = c .before .before .before .before .before .before .before .before .before .before .before in let i = c1 .i in
+    let f = c1 .before .before .find-near in let q = c1 .before .before .before .before .before .path-of in
+    let c2 = c1 .before .before .before .before .before .before .before in let m = c2 .m in let n = c2 .before .before .next in
+    let l = c2 .before .before .before .loop in let k = l .inv .0 in let y = heard k (n .ensures .1) (m .given .1) in
     let e = at-extents k y (f .ensures) (i .given .1) (q .ensures) in (e .0, l .inv .2, e .1, e .2, e .3)
 
 same-length-8 : tie.Need-same-length-8 Inv-loop μ-loop
@@ -204,9 +215,10 @@ returns-4 : tie.Need-returns-4 Inv-loop μ-loop
 returns-4 c =
     let if1 = c .if1 in let x = c .before .before .before .before .before .extents-after in
     let c1 = c .before .before .before .before .before .before .before .before .before .before .before in let enum-told4 = c1 .enum-told4 in
-    let e = c1 .before .before .edit-of in let c2 = c1 .before .before .before .before .before .before in let i = c2 .i in let f = c2 .before .before .find in
-    let q = c2 .before .before .before .path-of in let c3 = c2 .before .before .before .before .before .before .before in let m = c3 .m in
-    let n = c3 .before .before .next in let l = c3 .before .before .before .loop in let k = l .inv .0 in let y = heard k (n .ensures .1) (m .given .1) in
+    let e = c1 .before .before .edit-of in let c2 = c1 .before .before .before .before .before .before in let i = c2 .i in
+    let f = c2 .before .before .find-near in let q = c2 .before .before .before .before .before .path-of in
+    let c3 = c2 .before .before .before .before .before .before .before in let m = c3 .m in let n = c3 .before .before .next in
+    let l = c3 .before .before .before .loop in let k = l .inv .0 in let y = heard k (n .ensures .1) (m .given .1) in
     (at-full k y (f .ensures) (i .given .1) (q .ensures) (x .ensures) (e .ensures) (enum-told4 .given .1) (omega (arith, if1 .taken)), tt)
 
 revised-requires : tie.Need-revised-requires Inv-loop μ-loop
@@ -216,10 +228,10 @@ revised-requires c κs =
     let y = heard k (n .ensures .1) (m .given .1) in
     y .ranged
 
-mul-t71 : tie.Need-mul-t71 Inv-loop μ-loop
-mul-t71 c =
+mul-t79 : tie.Need-mul-t79 Inv-loop μ-loop
+mul-t79 c =
     let c1 = c .before .before .before .before .before .before .before .before .before .before .before .before .before .before .before .before .before .before in
-    let i = c1 .i in let f = c1 .before .before .find in let q = c1 .before .before .before .path-of in
+    let i = c1 .i in let f = c1 .before .before .find-near in let q = c1 .before .before .before .before .before .path-of in
     let c2 = c1 .before .before .before .before .before .before .before in let m = c2 .m in let n = c2 .before .before .next in
     let l = c2 .before .before .before .loop in let k = l .inv .0 in let y = heard k (n .ensures .1) (m .given .1) in
     omega (arith, at-slot k y (f .ensures) (i .given .1) (q .ensures))
@@ -227,7 +239,7 @@ mul-t71 c =
 element-set-from-t : tie.Need-element-set-from-t Inv-loop μ-loop
 element-set-from-t c =
     let c1 = c .before .before .before .before .before .before .before .before .before .before .before .before .before .before .before .before .before .before in
-    let i = c1 .i in let f = c1 .before .before .find in let q = c1 .before .before .before .path-of in
+    let i = c1 .i in let f = c1 .before .before .find-near in let q = c1 .before .before .before .before .before .path-of in
     let c2 = c1 .before .before .before .before .before .before .before in let m = c2 .m in let n = c2 .before .before .next in
     let l = c2 .before .before .before .loop in let k = l .inv .0 in let y = heard k (n .ensures .1) (m .given .1) in
     at-slot k y (f .ensures) (i .given .1) (q .ensures)
@@ -251,9 +263,9 @@ loop-again-3 c =
     let r = c .revised in let if1 = c .before .if1 in let a = c .before .before .before .scratch in
     let c1 = c .before .before .before .before .before .before in let x = c1 .extents-after in let c2 = c1 .before .before .before .before .before .before in
     let enum-told4 = c2 .enum-told4 in let e = c2 .before .before .edit-of in let c3 = c2 .before .before .before .before .before .before in let i = c3 .i in
-    let f = c3 .before .before .find in let q = c3 .before .before .before .path-of in let c4 = c3 .before .before .before .before .before .before .before in
-    let m = c4 .m in let n = c4 .before .before .next in let l = c4 .before .before .before .loop in let k = l .inv .0 in
-    let y = heard k (n .ensures .1) (m .given .1) in (
+    let f = c3 .before .before .find-near in let q = c3 .before .before .before .before .before .path-of in
+    let c4 = c3 .before .before .before .before .before .before .before in let m = c4 .m in let n = c4 .before .before .next in
+    let l = c4 .before .before .before .loop in let k = l .inv .0 in let y = heard k (n .ensures .1) (m .given .1) in (
       at-changed k y (f .ensures) (i .given .1) (q .ensures) (x .ensures) (e .ensures) (enum-told4 .given .1) (omega (arith, if1 .left)) (r .ensures)
           (omega arith),
       a .given ∙ l .inv .1,
@@ -284,8 +296,8 @@ loop-again-4 : tie.Need-loop-again-4 Inv-loop μ-loop
 loop-again-4 c =
     let if3 = c .if3 in let v = c .before .is-empty in let if2 = c .before .before .if2 in let d = c .before .before .before .is-dir in
     let enum-told5 = c .before .before .before .before .enum-told5 in let c1 = c .before .before .before .before .before .before in let e = c1 .edit-of in
-    let i = c1 .before .before .before .before .i in let c2 = c1 .before .before .before .before .before .before in let f = c2 .find in
-    let q = c2 .before .path-of in let m = c2 .before .before .before .before .before .m in
+    let i = c1 .before .before .before .before .i in let c2 = c1 .before .before .before .before .before .before in let f = c2 .find-near in
+    let q = c2 .before .before .before .path-of in let m = c2 .before .before .before .before .before .m in
     let c3 = c2 .before .before .before .before .before .before .before in let n = c3 .next in let l = c3 .before .loop in let k = l .inv .0 in
     let y = heard k (n .ensures .1) (m .given .1) in (
       at-kept k y (f .ensures) (i .given .1) (q .ensures) (e .ensures) (enum-told5 .given .1) (d .ensures) (if2 .taken) (v .ensures) (not-true _ (if3
@@ -297,15 +309,15 @@ loop-again-4 c =
 extents-after-requires-2 : tie.Need-extents-after-requires-2 Inv-loop μ-loop
 extents-after-requires-2 c κs =
     let c1 = c .before .before .before .before .before .before .before .before .before .before .before .before .before in let i = c1 .i in
-    let f = c1 .before .before .find in let q = c1 .before .before .before .path-of in let c2 = c1 .before .before .before .before .before .before .before in
-    let m = c2 .m in let n = c2 .before .before .next in let l = c2 .before .before .before .loop in let k = l .inv .0 in
-    let y = heard k (n .ensures .1) (m .given .1) in
+    let f = c1 .before .before .find-near in let q = c1 .before .before .before .before .before .path-of in
+    let c2 = c1 .before .before .before .before .before .before .before in let m = c2 .m in let n = c2 .before .before .next in
+    let l = c2 .before .before .before .loop in let k = l .inv .0 in let y = heard k (n .ensures .1) (m .given .1) in
     let e = at-extents k y (f .ensures) (i .given .1) (q .ensures) in (e .0, l .inv .2, e .1, e .2, e .3)
 
 close-key-requires : tie.Need-close-key-requires Inv-loop μ-loop
 close-key-requires c κs =
     let c1 = c .before .before .before .before .before .before .before .before .before .before .before .before .before .before .before .before .before .before in
-    let i = c1 .i in let f = c1 .before .before .find in let q = c1 .before .before .before .path-of in
+    let i = c1 .i in let f = c1 .before .before .find-near in let q = c1 .before .before .before .before .before .path-of in
     let c2 = c1 .before .before .before .before .before .before .before in let m = c2 .m in let n = c2 .before .before .next in
     let l = c2 .before .before .before .loop in let k = l .inv .0 in let y = heard k (n .ensures .1) (m .given .1) in
     (at-count k y (f .ensures) (i .given .1) (q .ensures), (k .held .kept .few, k .held .kept .keys-len))
@@ -313,7 +325,7 @@ close-key-requires c κs =
 close-slot-requires : tie.Need-close-slot-requires Inv-loop μ-loop
 close-slot-requires c κs =
     let c1 = c .before .before .before .before .before .before .before .before .before .before .before .before .before .before .before .before .before .before .before .before in
-    let i = c1 .i in let f = c1 .before .before .find in let q = c1 .before .before .before .path-of in
+    let i = c1 .i in let f = c1 .before .before .find-near in let q = c1 .before .before .before .before .before .path-of in
     let c2 = c1 .before .before .before .before .before .before .before in let m = c2 .m in let n = c2 .before .before .next in
     let l = c2 .before .before .before .loop in let k = l .inv .0 in let y = heard k (n .ensures .1) (m .given .1) in
     (at-count k y (f .ensures) (i .given .1) (q .ensures), (k .held .kept .few, k .held .kept .slots-len))
@@ -321,7 +333,7 @@ close-slot-requires c κs =
 sub-t : tie.Need-sub-t Inv-loop μ-loop
 sub-t c =
     let c1 = c .before .before .before .before .before .before .before .before .before .before .before .before .before .before .before .before .before .before .before .before .before in
-    let i = c1 .i in let f = c1 .before .before .find in let q = c1 .before .before .before .path-of in
+    let i = c1 .i in let f = c1 .before .before .find-near in let q = c1 .before .before .before .before .before .path-of in
     let c2 = c1 .before .before .before .before .before .before .before in let m = c2 .m in let n = c2 .before .before .next in
     let l = c2 .before .before .before .loop in let k = l .inv .0 in let y = heard k (n .ensures .1) (m .given .1) in
     omega (arith, at-count k y (f .ensures) (i .given .1) (q .ensures))
@@ -336,19 +348,19 @@ add-applied-2 c =
 sub-find : tie.Need-sub-find Inv-loop μ-loop
 sub-find c =
     let c1 = c .before .before .before .before .before .before .before .before .before .before .before .before .before .before .before .before .before .before .before .before .before .before .before in
-    let i = c1 .i in let f = c1 .before .before .find in let q = c1 .before .before .before .path-of in
+    let i = c1 .i in let f = c1 .before .before .find-near in let q = c1 .before .before .before .before .before .path-of in
     let c2 = c1 .before .before .before .before .before .before .before in let m = c2 .m in let n = c2 .before .before .next in
     let l = c2 .before .before .before .loop in let k = l .inv .0 in let y = heard k (n .ensures .1) (m .given .1) in
     omega (arith, at-count k y (f .ensures) (i .given .1) (q .ensures))
 
-find-requires-2 : tie.Need-find-requires-2 Inv-loop μ-loop
-find-requires-2 c κs =
+find-requires : tie.Need-find-requires Inv-loop μ-loop
+find-requires c κs =
     let o = c .before .before .close-slot in let w = c .before .before .before .before .close-key in
     let c1 = c .before .before .before .before .before .before .before .before .before in let x = c1 .extents-after2 in
     let c2 = c1 .before .before .before .before .before .before in let if2 = c2 .if2 in let d = c2 .before .is-dir in
     let enum-told5 = c2 .before .before .enum-told5 in let e = c2 .before .before .before .before .edit-of in
-    let c3 = c2 .before .before .before .before .before .before .before .before in let i = c3 .i in let f = c3 .before .before .find in
-    let q = c3 .before .before .before .path-of in let c4 = c3 .before .before .before .before .before .before .before in let m = c4 .m in
+    let c3 = c2 .before .before .before .before .before .before .before .before in let i = c3 .i in let f = c3 .before .before .find-near in
+    let q = c3 .before .before .before .before .before .path-of in let c4 = c3 .before .before .before .before .before .before .before in let m = c4 .m in
     let n = c4 .before .before .next in let l = c4 .before .before .before .loop in let k = l .inv .0 in let y = heard k (n .ensures .1) (m .given .1) in
     may-find-home k y (f .ensures) (i .given .1) (q .ensures) (x .ensures) (e .ensures) (enum-told5 .given .1) (⊎-elim (λ x. may-empty k y (f .ensures) (i
     .given .1) (q .ensures) (x .1 .ensures) (not-false _ (x .2 .left))) (λ x. may-plain k y (f .ensures) (i .given .1) (q .ensures) (d .ensures) (x
@@ -363,13 +375,13 @@ loop-less-5 c =
 
 loop-again-5 : tie.Need-loop-again-5 Inv-loop μ-loop
 loop-again-5 c =
-    let enum-told6 = c .enum-told6 in let h = c .before .before .find2 in let o = c .before .before .before .before .before .close-slot in
+    let enum-told6 = c .enum-told6 in let h = c .before .before .find in let o = c .before .before .before .before .before .close-slot in
     let c1 = c .before .before .before .before .before .before .before in let w = c1 .close-key in let a = c1 .before .before .scratch2 in
     let x = c1 .before .before .before .before .before .extents-after2 in
     let c2 = c1 .before .before .before .before .before .before .before .before .before .before .before in let if2 = c2 .if2 in let d = c2 .before .is-dir in
     let enum-told5 = c2 .before .before .enum-told5 in let e = c2 .before .before .before .before .edit-of in
-    let c3 = c2 .before .before .before .before .before .before .before .before in let i = c3 .i in let f = c3 .before .before .find in
-    let q = c3 .before .before .before .path-of in let c4 = c3 .before .before .before .before .before .before .before in let m = c4 .m in
+    let c3 = c2 .before .before .before .before .before .before .before .before in let i = c3 .i in let f = c3 .before .before .find-near in
+    let q = c3 .before .before .before .before .before .path-of in let c4 = c3 .before .before .before .before .before .before .before in let m = c4 .m in
     let n = c4 .before .before .next in let l = c4 .before .before .before .loop in let k = l .inv .0 in let y = heard k (n .ensures .1) (m .given .1) in (
       at-removed k y (f .ensures) (i .given .1) (q .ensures) (x .ensures) (e .ensures) (enum-told5 .given .1) (⊎-elim (λ x. may-empty k y (f .ensures) (i
           .given .1) (q .ensures) (x .1 .ensures) (not-false _ (x .2 .left))) (λ x. may-plain k y (f .ensures) (i .given .1) (q .ensures) (d .ensures) (x
@@ -381,12 +393,12 @@ loop-again-5 c =
 
 mul-h : tie.Need-mul-h Inv-loop μ-loop
 mul-h c =
-    let j = c .before .j in let h = c .before .before .before .find2 in let c1 = c .before .before .before .before .before .before in let o = c1 .close-slot in
+    let j = c .before .j in let h = c .before .before .before .find in let c1 = c .before .before .before .before .before .before in let o = c1 .close-slot in
     let w = c1 .before .before .close-key in let c2 = c1 .before .before .before .before .before .before .before in let x = c2 .extents-after2 in
     let c3 = c2 .before .before .before .before .before .before in let if2 = c3 .if2 in let d = c3 .before .is-dir in
     let enum-told5 = c3 .before .before .enum-told5 in let e = c3 .before .before .before .before .edit-of in
-    let c4 = c3 .before .before .before .before .before .before .before .before in let i = c4 .i in let f = c4 .before .before .find in
-    let q = c4 .before .before .before .path-of in let c5 = c4 .before .before .before .before .before .before .before in let m = c5 .m in
+    let c4 = c3 .before .before .before .before .before .before .before .before in let i = c4 .i in let f = c4 .before .before .find-near in
+    let q = c4 .before .before .before .before .before .path-of in let c5 = c4 .before .before .before .before .before .before .before in let m = c5 .m in
     let n = c5 .before .before .next in let l = c5 .before .before .before .loop in let k = l .inv .0 in let y = heard k (n .ensures .1) (m .given .1) in
     omega (
       arith,
@@ -397,12 +409,12 @@ mul-h c =
 
 element-copy-out-h : tie.Need-element-copy-out-h Inv-loop μ-loop
 element-copy-out-h c =
-    let j = c .before .j in let h = c .before .before .before .find2 in let c1 = c .before .before .before .before .before .before in let o = c1 .close-slot in
+    let j = c .before .j in let h = c .before .before .before .find in let c1 = c .before .before .before .before .before .before in let o = c1 .close-slot in
     let w = c1 .before .before .close-key in let c2 = c1 .before .before .before .before .before .before .before in let x = c2 .extents-after2 in
     let c3 = c2 .before .before .before .before .before .before in let if2 = c3 .if2 in let d = c3 .before .is-dir in
     let enum-told5 = c3 .before .before .enum-told5 in let e = c3 .before .before .before .before .edit-of in
-    let c4 = c3 .before .before .before .before .before .before .before .before in let i = c4 .i in let f = c4 .before .before .find in
-    let q = c4 .before .before .before .path-of in let c5 = c4 .before .before .before .before .before .before .before in let m = c5 .m in
+    let c4 = c3 .before .before .before .before .before .before .before .before in let i = c4 .i in let f = c4 .before .before .find-near in
+    let q = c4 .before .before .before .before .before .path-of in let c5 = c4 .before .before .before .before .before .before .before in let m = c5 .m in
     let n = c5 .before .before .next in let l = c5 .before .before .before .loop in let k = l .inv .0 in let y = heard k (n .ensures .1) (m .given .1) in
     home-low k y (f .ensures) (i .given .1) (q .ensures) (x .ensures) (e .ensures) (enum-told5 .given .1) (⊎-elim (λ x. may-empty k y (f .ensures) (i
     .given .1) (q .ensures) (x .1 .ensures) (not-false _ (x .2 .left))) (λ x. may-plain k y (f .ensures) (i .given .1) (q .ensures) (d .ensures) (x
@@ -410,12 +422,12 @@ element-copy-out-h c =
 
 cast-h : tie.Need-cast-h Inv-loop μ-loop
 cast-h c =
-    let j = c .before .before .j in let h = c .before .before .before .before .find2 in let c1 = c .before .before .before .before .before .before .before in
+    let j = c .before .before .j in let h = c .before .before .before .before .find in let c1 = c .before .before .before .before .before .before .before in
     let o = c1 .close-slot in let w = c1 .before .before .close-key in let c2 = c1 .before .before .before .before .before .before .before in
     let x = c2 .extents-after2 in let c3 = c2 .before .before .before .before .before .before in let if2 = c3 .if2 in let d = c3 .before .is-dir in
     let enum-told5 = c3 .before .before .enum-told5 in let e = c3 .before .before .before .before .edit-of in
-    let c4 = c3 .before .before .before .before .before .before .before .before in let i = c4 .i in let f = c4 .before .before .find in
-    let q = c4 .before .before .before .path-of in let c5 = c4 .before .before .before .before .before .before .before in let m = c5 .m in
+    let c4 = c3 .before .before .before .before .before .before .before .before in let i = c4 .i in let f = c4 .before .before .find-near in
+    let q = c4 .before .before .before .before .before .path-of in let c5 = c4 .before .before .before .before .before .before .before in let m = c5 .m in
     let n = c5 .before .before .next in let l = c5 .before .before .before .loop in let k = l .inv .0 in let y = heard k (n .ensures .1) (m .given .1) in
     omega (
       arith,
@@ -426,12 +438,12 @@ cast-h c =
 
 mul-stamped-by : tie.Need-mul-stamped-by Inv-loop μ-loop
 mul-stamped-by c =
-    let j = c .before .before .j in let h = c .before .before .before .before .find2 in let c1 = c .before .before .before .before .before .before .before in
+    let j = c .before .before .j in let h = c .before .before .before .before .find in let c1 = c .before .before .before .before .before .before .before in
     let o = c1 .close-slot in let w = c1 .before .before .close-key in let c2 = c1 .before .before .before .before .before .before .before in
     let x = c2 .extents-after2 in let c3 = c2 .before .before .before .before .before .before in let if2 = c3 .if2 in let d = c3 .before .is-dir in
     let enum-told5 = c3 .before .before .enum-told5 in let e = c3 .before .before .before .before .edit-of in
-    let c4 = c3 .before .before .before .before .before .before .before .before in let i = c4 .i in let f = c4 .before .before .find in
-    let q = c4 .before .before .before .path-of in let c5 = c4 .before .before .before .before .before .before .before in let m = c5 .m in
+    let c4 = c3 .before .before .before .before .before .before .before .before in let i = c4 .i in let f = c4 .before .before .find-near in
+    let q = c4 .before .before .before .before .before .path-of in let c5 = c4 .before .before .before .before .before .before .before in let m = c5 .m in
     let n = c5 .before .before .next in let l = c5 .before .before .before .loop in let k = l .inv .0 in let y = heard k (n .ensures .1) (m .given .1) in
     omega (
       arith,
@@ -442,26 +454,26 @@ mul-stamped-by c =
 
 element-copy-out-stamped-by : tie.Need-element-copy-out-stamped-by Inv-loop μ-loop
 element-copy-out-stamped-by c =
-    let j = c .before .before .j in let h = c .before .before .before .before .find2 in let c1 = c .before .before .before .before .before .before .before in
+    let j = c .before .before .j in let h = c .before .before .before .before .find in let c1 = c .before .before .before .before .before .before .before in
     let o = c1 .close-slot in let w = c1 .before .before .close-key in let c2 = c1 .before .before .before .before .before .before .before in
     let x = c2 .extents-after2 in let c3 = c2 .before .before .before .before .before .before in let if2 = c3 .if2 in let d = c3 .before .is-dir in
     let enum-told5 = c3 .before .before .enum-told5 in let e = c3 .before .before .before .before .edit-of in
-    let c4 = c3 .before .before .before .before .before .before .before .before in let i = c4 .i in let f = c4 .before .before .find in
-    let q = c4 .before .before .before .path-of in let c5 = c4 .before .before .before .before .before .before .before in let m = c5 .m in
+    let c4 = c3 .before .before .before .before .before .before .before .before in let i = c4 .i in let f = c4 .before .before .find-near in
+    let q = c4 .before .before .before .before .before .path-of in let c5 = c4 .before .before .before .before .before .before .before in let m = c5 .m in
     let n = c5 .before .before .next in let l = c5 .before .before .before .loop in let k = l .inv .0 in let y = heard k (n .ensures .1) (m .given .1) in
     home-slot k y (f .ensures) (i .given .1) (q .ensures) (x .ensures) (e .ensures) (enum-told5 .given .1) (⊎-elim (λ x. may-empty k y (f .ensures) (i
     .given .1) (q .ensures) (x .1 .ensures) (not-false _ (x .2 .left))) (λ x. may-plain k y (f .ensures) (i .given .1) (q .ensures) (d .ensures) (x
     .left)) (if2 .came)) (removed-is _ _ (w .ensures) (o .ensures)) (h .ensures) (j .given .1)
 
-mul-t98 : tie.Need-mul-t98 Inv-loop μ-loop
-mul-t98 c =
-    let j = c .before .before .before .before .j in let c1 = c .before .before .before .before .before .before in let h = c1 .find2 in
+mul-t106 : tie.Need-mul-t106 Inv-loop μ-loop
+mul-t106 c =
+    let j = c .before .before .before .before .j in let c1 = c .before .before .before .before .before .before in let h = c1 .find in
     let o = c1 .before .before .before .close-slot in let w = c1 .before .before .before .before .before .close-key in
     let c2 = c1 .before .before .before .before .before .before .before .before .before .before in let x = c2 .extents-after2 in
     let c3 = c2 .before .before .before .before .before .before in let if2 = c3 .if2 in let d = c3 .before .is-dir in
     let enum-told5 = c3 .before .before .enum-told5 in let e = c3 .before .before .before .before .edit-of in
-    let c4 = c3 .before .before .before .before .before .before .before .before in let i = c4 .i in let f = c4 .before .before .find in
-    let q = c4 .before .before .before .path-of in let c5 = c4 .before .before .before .before .before .before .before in let m = c5 .m in
+    let c4 = c3 .before .before .before .before .before .before .before .before in let i = c4 .i in let f = c4 .before .before .find-near in
+    let q = c4 .before .before .before .before .before .path-of in let c5 = c4 .before .before .before .before .before .before .before in let m = c5 .m in
     let n = c5 .before .before .next in let l = c5 .before .before .before .loop in let k = l .inv .0 in let y = heard k (n .ensures .1) (m .given .1) in
     omega (
       arith,
@@ -472,13 +484,13 @@ mul-t98 c =
 
 element-set-from-t-2 : tie.Need-element-set-from-t-2 Inv-loop μ-loop
 element-set-from-t-2 c =
-    let j = c .before .before .before .before .j in let c1 = c .before .before .before .before .before .before in let h = c1 .find2 in
+    let j = c .before .before .before .before .j in let c1 = c .before .before .before .before .before .before in let h = c1 .find in
     let o = c1 .before .before .before .close-slot in let w = c1 .before .before .before .before .before .close-key in
     let c2 = c1 .before .before .before .before .before .before .before .before .before .before in let x = c2 .extents-after2 in
     let c3 = c2 .before .before .before .before .before .before in let if2 = c3 .if2 in let d = c3 .before .is-dir in
     let enum-told5 = c3 .before .before .enum-told5 in let e = c3 .before .before .before .before .edit-of in
-    let c4 = c3 .before .before .before .before .before .before .before .before in let i = c4 .i in let f = c4 .before .before .find in
-    let q = c4 .before .before .before .path-of in let c5 = c4 .before .before .before .before .before .before .before in let m = c5 .m in
+    let c4 = c3 .before .before .before .before .before .before .before .before in let i = c4 .i in let f = c4 .before .before .find-near in
+    let q = c4 .before .before .before .before .before .path-of in let c5 = c4 .before .before .before .before .before .before .before in let m = c5 .m in
     let n = c5 .before .before .next in let l = c5 .before .before .before .loop in let k = l .inv .0 in let y = heard k (n .ensures .1) (m .given .1) in
     home-slot k y (f .ensures) (i .given .1) (q .ensures) (x .ensures) (e .ensures) (enum-told5 .given .1) (⊎-elim (λ x. may-empty k y (f .ensures) (i
     .given .1) (q .ensures) (x .1 .ensures) (not-false _ (x .2 .left))) (λ x. may-plain k y (f .ensures) (i .given .1) (q .ensures) (d .ensures) (x
@@ -493,13 +505,13 @@ loop-less-6 c =
 
 loop-again-6 : tie.Need-loop-again-6 Inv-loop μ-loop
 loop-again-6 c =
-    let r = c .stamped-by in let j = c .before .before .before .before .j in let c1 = c .before .before .before .before .before .before in let h = c1 .find2 in
+    let r = c .stamped-by in let j = c .before .before .before .before .j in let c1 = c .before .before .before .before .before .before in let h = c1 .find in
     let o = c1 .before .before .before .close-slot in let w = c1 .before .before .before .before .before .close-key in
     let c2 = c1 .before .before .before .before .before .before .before in let a = c2 .scratch2 in let x = c2 .before .before .before .extents-after2 in
     let c3 = c2 .before .before .before .before .before .before .before .before .before in let if2 = c3 .if2 in let d = c3 .before .is-dir in
     let enum-told5 = c3 .before .before .enum-told5 in let e = c3 .before .before .before .before .edit-of in
-    let c4 = c3 .before .before .before .before .before .before .before .before in let i = c4 .i in let f = c4 .before .before .find in
-    let q = c4 .before .before .before .path-of in let c5 = c4 .before .before .before .before .before .before .before in let m = c5 .m in
+    let c4 = c3 .before .before .before .before .before .before .before .before in let i = c4 .i in let f = c4 .before .before .find-near in
+    let q = c4 .before .before .before .before .before .path-of in let c5 = c4 .before .before .before .before .before .before .before in let m = c5 .m in
     let n = c5 .before .before .next in let l = c5 .before .before .before .loop in let k = l .inv .0 in let y = heard k (n .ensures .1) (m .given .1) in (
       at-stamped k y (f .ensures) (i .given .1) (q .ensures) (x .ensures) (e .ensures) (enum-told5 .given .1) (⊎-elim (λ x. may-empty k y (f .ensures) (i
           .given .1) (q .ensures) (x .1 .ensures) (not-false _ (x .2 .left))) (λ x. may-plain k y (f .ensures) (i .given .1) (q .ensures) (d .ensures) (x
@@ -524,13 +536,13 @@ loop-less-7 c =
 loop-again-7 : tie.Need-loop-again-7 Inv-loop μ-loop
 loop-again-7 c =
     let enum-told7 = c .enum-told7 in let b = c .before .before .made-by in let j = c .before .before .before .before .j2 in
-    let c1 = c .before .before .before .before .before .before in let f = c1 .find in let q = c1 .before .path-of in
+    let c1 = c .before .before .before .before .before .before in let f = c1 .find-near in let q = c1 .before .before .before .path-of in
     let m = c1 .before .before .before .before .before .m in let c2 = c1 .before .before .before .before .before .before .before in let n = c2 .next in
     let l = c2 .before .loop in let k = l .inv .0 in let y = heard k (n .ensures .1) (m .given .1) in
     (gap-ignored k y (f .ensures) (j .given .1) (q .ensures) (b .ensures) (enum-told7 .given .1) (omega arith), l .inv .1, l .inv .2)
 
-find-requires-3 : tie.Need-find-requires-3 Inv-loop μ-loop
-find-requires-3 c κs =
+find-requires-2 : tie.Need-find-requires-2 Inv-loop μ-loop
+find-requires-2 c κs =
     let c1 = c .before .before .before .before .before .before .before .before .before .before .before .before .before .before in let m = c1 .m in
     let n = c1 .before .before .next in let l = c1 .before .before .before .loop in let k = l .inv .0 in let y = heard k (n .ensures .1) (m .given .1) in
     may-find k y
@@ -551,9 +563,9 @@ loop-less-8 c =
 
 loop-again-8 : tie.Need-loop-again-8 Inv-loop μ-loop
 loop-again-8 c =
-    let enum-told8 = c .enum-told8 in let h = c .before .before .find3 in let c1 = c .before .before .before .before .before .before in let p = c1 .q in
+    let enum-told8 = c .enum-told8 in let h = c .before .before .find2 in let c1 = c .before .before .before .before .before .before in let p = c1 .q in
     let b = c1 .before .before .made-by in let j = c1 .before .before .before .before .j2 in let c2 = c1 .before .before .before .before .before .before in
-    let f = c2 .find in let q = c2 .before .path-of in let m = c2 .before .before .before .before .before .m in
+    let f = c2 .find-near in let q = c2 .before .before .before .path-of in let m = c2 .before .before .before .before .before .m in
     let c3 = c2 .before .before .before .before .before .before .before in let n = c3 .next in let l = c3 .before .loop in let k = l .inv .0 in
     let y = heard k (n .ensures .1) (m .given .1) in (
       gap-orphan k y (f .ensures) (j .given .1) (q .ensures) (b .ensures) (p .given .1) (h .ensures) (enum-told8 .given .1) (omega arith),
@@ -564,48 +576,48 @@ loop-again-8 c =
 
 mul-h-2 : tie.Need-mul-h-2 Inv-loop μ-loop
 mul-h-2 c =
-    let u = c .before .k in let h = c .before .before .before .find3 in let c1 = c .before .before .before .before .before .before .before in let p = c1 .q in
+    let u = c .before .k in let h = c .before .before .before .find2 in let c1 = c .before .before .before .before .before .before .before in let p = c1 .q in
     let b = c1 .before .before .made-by in let j = c1 .before .before .before .before .j2 in let c2 = c1 .before .before .before .before .before .before in
-    let f = c2 .find in let q = c2 .before .path-of in let m = c2 .before .before .before .before .before .m in
+    let f = c2 .find-near in let q = c2 .before .before .before .path-of in let m = c2 .before .before .before .before .before .m in
     let c3 = c2 .before .before .before .before .before .before .before in let n = c3 .next in let l = c3 .before .loop in let k = l .inv .0 in
     let y = heard k (n .ensures .1) (m .given .1) in
     omega (arith, parent-low k y (f .ensures) (j .given .1) (q .ensures) (b .ensures) (p .given .1) (h .ensures) (u .given .1))
 
 element-copy-out-h-2 : tie.Need-element-copy-out-h-2 Inv-loop μ-loop
 element-copy-out-h-2 c =
-    let u = c .before .k in let h = c .before .before .before .find3 in let c1 = c .before .before .before .before .before .before .before in let p = c1 .q in
+    let u = c .before .k in let h = c .before .before .before .find2 in let c1 = c .before .before .before .before .before .before .before in let p = c1 .q in
     let b = c1 .before .before .made-by in let j = c1 .before .before .before .before .j2 in let c2 = c1 .before .before .before .before .before .before in
-    let f = c2 .find in let q = c2 .before .path-of in let m = c2 .before .before .before .before .before .m in
+    let f = c2 .find-near in let q = c2 .before .before .before .path-of in let m = c2 .before .before .before .before .before .m in
     let c3 = c2 .before .before .before .before .before .before .before in let n = c3 .next in let l = c3 .before .loop in let k = l .inv .0 in
     let y = heard k (n .ensures .1) (m .given .1) in
     parent-low k y (f .ensures) (j .given .1) (q .ensures) (b .ensures) (p .given .1) (h .ensures) (u .given .1)
 
 cast-h-2 : tie.Need-cast-h-2 Inv-loop μ-loop
 cast-h-2 c =
-    let u = c .before .before .k in let h = c .before .before .before .before .find3 in
+    let u = c .before .before .k in let h = c .before .before .before .before .find2 in
     let c1 = c .before .before .before .before .before .before .before .before in let p = c1 .q in let b = c1 .before .before .made-by in
-    let j = c1 .before .before .before .before .j2 in let c2 = c1 .before .before .before .before .before .before in let f = c2 .find in
-    let q = c2 .before .path-of in let m = c2 .before .before .before .before .before .m in
+    let j = c1 .before .before .before .before .j2 in let c2 = c1 .before .before .before .before .before .before in let f = c2 .find-near in
+    let q = c2 .before .before .before .path-of in let m = c2 .before .before .before .before .before .m in
     let c3 = c2 .before .before .before .before .before .before .before in let n = c3 .next in let l = c3 .before .loop in let k = l .inv .0 in
     let y = heard k (n .ensures .1) (m .given .1) in
     omega (arith, parent-slot k y (f .ensures) (j .given .1) (q .ensures) (b .ensures) (p .given .1) (h .ensures) (u .given .1))
 
 mul-parent : tie.Need-mul-parent Inv-loop μ-loop
 mul-parent c =
-    let u = c .before .before .k in let h = c .before .before .before .before .find3 in
+    let u = c .before .before .k in let h = c .before .before .before .before .find2 in
     let c1 = c .before .before .before .before .before .before .before .before in let p = c1 .q in let b = c1 .before .before .made-by in
-    let j = c1 .before .before .before .before .j2 in let c2 = c1 .before .before .before .before .before .before in let f = c2 .find in
-    let q = c2 .before .path-of in let m = c2 .before .before .before .before .before .m in
+    let j = c1 .before .before .before .before .j2 in let c2 = c1 .before .before .before .before .before .before in let f = c2 .find-near in
+    let q = c2 .before .before .before .path-of in let m = c2 .before .before .before .before .before .m in
     let c3 = c2 .before .before .before .before .before .before .before in let n = c3 .next in let l = c3 .before .loop in let k = l .inv .0 in
     let y = heard k (n .ensures .1) (m .given .1) in
     omega (arith, parent-slot k y (f .ensures) (j .given .1) (q .ensures) (b .ensures) (p .given .1) (h .ensures) (u .given .1))
 
 element-copy-out-parent : tie.Need-element-copy-out-parent Inv-loop μ-loop
 element-copy-out-parent c =
-    let u = c .before .before .k in let h = c .before .before .before .before .find3 in
+    let u = c .before .before .k in let h = c .before .before .before .before .find2 in
     let c1 = c .before .before .before .before .before .before .before .before in let p = c1 .q in let b = c1 .before .before .made-by in
-    let j = c1 .before .before .before .before .j2 in let c2 = c1 .before .before .before .before .before .before in let f = c2 .find in
-    let q = c2 .before .path-of in let m = c2 .before .before .before .before .before .m in
+    let j = c1 .before .before .before .before .j2 in let c2 = c1 .before .before .before .before .before .before in let f = c2 .find-near in
+    let q = c2 .before .before .before .path-of in let m = c2 .before .before .before .before .before .m in
     let c3 = c2 .before .before .before .before .before .before .before in let n = c3 .next in let l = c3 .before .loop in let k = l .inv .0 in
     let y = heard k (n .ensures .1) (m .given .1) in
     parent-slot k y (f .ensures) (j .given .1) (q .ensures) (b .ensures) (p .given .1) (h .ensures) (u .given .1)
@@ -627,11 +639,11 @@ loop-less-9 c =
 loop-again-9 : tie.Need-loop-again-9 Inv-loop μ-loop
 loop-again-9 c =
     let if4 = c .if4 in let d = c .before .is-dir2 in let u = c .before .before .before .before .before .k in
-    let c1 = c .before .before .before .before .before .before .before in let h = c1 .find3 in let p = c1 .before .before .before .before .q in
+    let c1 = c .before .before .before .before .before .before .before in let h = c1 .find2 in let p = c1 .before .before .before .before .q in
     let c2 = c1 .before .before .before .before .before .before in let b = c2 .made-by in let j = c2 .before .before .j2 in
-    let f = c2 .before .before .before .before .find in let q = c2 .before .before .before .before .before .path-of in
-    let c3 = c2 .before .before .before .before .before .before .before .before .before in let m = c3 .m in let n = c3 .before .before .next in
-    let l = c3 .before .before .before .loop in let k = l .inv .0 in let y = heard k (n .ensures .1) (m .given .1) in (
+    let f = c2 .before .before .before .before .find-near in let c3 = c2 .before .before .before .before .before .before .before in let q = c3 .path-of in
+    let m = c3 .before .before .m in let n = c3 .before .before .before .before .next in let l = c3 .before .before .before .before .before .loop in
+    let k = l .inv .0 in let y = heard k (n .ensures .1) (m .given .1) in (
       gap-plain k y (f .ensures) (j .given .1) (q .ensures) (b .ensures) (p .given .1) (h .ensures) (u .given .1) (d .ensures) (not-true _ (if4 .taken))
           (omega arith),
       l .inv .1,
@@ -660,9 +672,9 @@ same-length-13 c =
 returns-5 : tie.Need-returns-5 Inv-loop μ-loop
 returns-5 c =
     let if5 = c .if5 in let if4 = c .before .if4 in let d = c .before .before .is-dir2 in let c1 = c .before .before .before .before .before .before in
-    let u = c1 .k in let h = c1 .before .before .find3 in let c2 = c1 .before .before .before .before .before .before in let p = c2 .q in
+    let u = c1 .k in let h = c1 .before .before .find2 in let c2 = c1 .before .before .before .before .before .before in let p = c2 .q in
     let b = c2 .before .before .made-by in let j = c2 .before .before .before .before .j2 in let c3 = c2 .before .before .before .before .before .before in
-    let f = c3 .find in let q = c3 .before .path-of in let m = c3 .before .before .before .before .before .m in
+    let f = c3 .find-near in let q = c3 .before .before .before .path-of in let m = c3 .before .before .before .before .before .m in
     let c4 = c3 .before .before .before .before .before .before .before in let n = c4 .next in let l = c4 .before .loop in let k = l .inv .0 in
     let y = heard k (n .ensures .1) (m .given .1) in (
       gap-full k y (f .ensures) (j .given .1) (q .ensures) (b .ensures) (p .given .1) (h .ensures) (u .given .1) (d .ensures) (not-false _ (if4 .left))
@@ -674,7 +686,7 @@ open-key-requires : tie.Need-open-key-requires Inv-loop μ-loop
 open-key-requires c κs =
     let if5 = c .before .if5 in
     let c1 = c .before .before .before .before .before .before .before .before .before .before .before .before .before .before .before .before .before in
-    let j = c1 .j2 in let f = c1 .before .before .find in let q = c1 .before .before .before .path-of in
+    let j = c1 .j2 in let f = c1 .before .before .find-near in let q = c1 .before .before .before .before .before .path-of in
     let c2 = c1 .before .before .before .before .before .before .before in let m = c2 .m in let n = c2 .before .before .next in
     let l = c2 .before .before .before .loop in let k = l .inv .0 in let y = heard k (n .ensures .1) (m .given .1) in
     (gap-low k y (f .ensures) (j .given .1) (q .ensures), ((omega (arith, k .held .kept .few, if5 .left)), k .held .kept .keys-len))
@@ -683,7 +695,7 @@ open-slot-requires : tie.Need-open-slot-requires Inv-loop μ-loop
 open-slot-requires c κs =
     let if5 = c .before .before .before .if5 in
     let c1 = c .before .before .before .before .before .before .before .before .before .before .before .before .before .before .before .before .before .before .before in
-    let j = c1 .j2 in let f = c1 .before .before .find in let q = c1 .before .before .before .path-of in
+    let j = c1 .j2 in let f = c1 .before .before .find-near in let q = c1 .before .before .before .before .before .path-of in
     let c2 = c1 .before .before .before .before .before .before .before in let m = c2 .m in let n = c2 .before .before .next in
     let l = c2 .before .before .before .loop in let k = l .inv .0 in let y = heard k (n .ensures .1) (m .given .1) in
     (gap-low k y (f .ensures) (j .given .1) (q .ensures), ((omega (arith, k .held .kept .few, if5 .left)), k .held .kept .slots-len))
@@ -692,11 +704,11 @@ fresh-requires-2 : tie.Need-fresh-requires-2 Inv-loop μ-loop
 fresh-requires-2 c κs =
     let o = c .before .open-slot in let if5 = c .before .before .before .before .before .if5 in let c1 = c .before .before .before .before .before .before in
     let if4 = c1 .if4 in let d = c1 .before .is-dir2 in let u = c1 .before .before .before .before .before .k in
-    let c2 = c1 .before .before .before .before .before .before .before in let h = c2 .find3 in let p = c2 .before .before .before .before .q in
+    let c2 = c1 .before .before .before .before .before .before .before in let h = c2 .find2 in let p = c2 .before .before .before .before .q in
     let c3 = c2 .before .before .before .before .before .before in let b = c3 .made-by in let j = c3 .before .before .j2 in
-    let f = c3 .before .before .before .before .find in let q = c3 .before .before .before .before .before .path-of in
-    let c4 = c3 .before .before .before .before .before .before .before .before .before in let m = c4 .m in let n = c4 .before .before .next in
-    let l = c4 .before .before .before .loop in let k = l .inv .0 in let y = heard k (n .ensures .1) (m .given .1) in
+    let f = c3 .before .before .before .before .find-near in let c4 = c3 .before .before .before .before .before .before .before in let q = c4 .path-of in
+    let m = c4 .before .before .m in let n = c4 .before .before .before .before .next in let l = c4 .before .before .before .before .before .loop in
+    let k = l .inv .0 in let y = heard k (n .ensures .1) (m .given .1) in
     gap-free k y (f .ensures) (j .given .1) (q .ensures) (b .ensures) (p .given .1) (h .ensures) (u .given .1) (d .ensures) (not-false _ (if4 .left))
     (omega (arith, k .held .kept .few, if5 .left)) (o .ensures .0) .0
 
@@ -704,9 +716,9 @@ mul-q : tie.Need-mul-q Inv-loop μ-loop
 mul-q c =
     let o = c .before .before .before .open-slot in let c1 = c .before .before .before .before .before .before .before in let if5 = c1 .if5 in
     let if4 = c1 .before .if4 in let d = c1 .before .before .is-dir2 in let c2 = c1 .before .before .before .before .before .before in let u = c2 .k in
-    let h = c2 .before .before .find3 in let c3 = c2 .before .before .before .before .before .before in let p = c3 .q in let b = c3 .before .before .made-by in
-    let j = c3 .before .before .before .before .j2 in let c4 = c3 .before .before .before .before .before .before in let f = c4 .find in
-    let q = c4 .before .path-of in let m = c4 .before .before .before .before .before .m in
+    let h = c2 .before .before .find2 in let c3 = c2 .before .before .before .before .before .before in let p = c3 .q in let b = c3 .before .before .made-by in
+    let j = c3 .before .before .before .before .j2 in let c4 = c3 .before .before .before .before .before .before in let f = c4 .find-near in
+    let q = c4 .before .before .before .path-of in let m = c4 .before .before .before .before .before .m in
     let c5 = c4 .before .before .before .before .before .before .before in let n = c5 .next in let l = c5 .before .loop in let k = l .inv .0 in
     let y = heard k (n .ensures .1) (m .given .1) in
     omega (
@@ -719,9 +731,9 @@ element-set-from-q : tie.Need-element-set-from-q Inv-loop μ-loop
 element-set-from-q c =
     let o = c .before .before .before .open-slot in let c1 = c .before .before .before .before .before .before .before in let if5 = c1 .if5 in
     let if4 = c1 .before .if4 in let d = c1 .before .before .is-dir2 in let c2 = c1 .before .before .before .before .before .before in let u = c2 .k in
-    let h = c2 .before .before .find3 in let c3 = c2 .before .before .before .before .before .before in let p = c3 .q in let b = c3 .before .before .made-by in
-    let j = c3 .before .before .before .before .j2 in let c4 = c3 .before .before .before .before .before .before in let f = c4 .find in
-    let q = c4 .before .path-of in let m = c4 .before .before .before .before .before .m in
+    let h = c2 .before .before .find2 in let c3 = c2 .before .before .before .before .before .before in let p = c3 .q in let b = c3 .before .before .made-by in
+    let j = c3 .before .before .before .before .j2 in let c4 = c3 .before .before .before .before .before .before in let f = c4 .find-near in
+    let q = c4 .before .before .before .path-of in let m = c4 .before .before .before .before .before .m in
     let c5 = c4 .before .before .before .before .before .before .before in let n = c5 .next in let l = c5 .before .loop in let k = l .inv .0 in
     let y = heard k (n .ensures .1) (m .given .1) in
     gap-free k y (f .ensures) (j .given .1) (q .ensures) (b .ensures) (p .given .1) (h .ensures) (u .given .1) (d .ensures) (not-false _ (if4 .left))
@@ -751,10 +763,10 @@ loop-again-10 : tie.Need-loop-again-10 Inv-loop μ-loop
 loop-again-10 c =
     let z = c .before .fresh2 in let o = c .before .before .before .open-slot in let w = c .before .before .before .before .before .open-key in
     let c1 = c .before .before .before .before .before .before .before in let if5 = c1 .if5 in let if4 = c1 .before .if4 in
-    let d = c1 .before .before .is-dir2 in let c2 = c1 .before .before .before .before .before .before in let u = c2 .k in let h = c2 .before .before .find3 in
+    let d = c1 .before .before .is-dir2 in let c2 = c1 .before .before .before .before .before .before in let u = c2 .k in let h = c2 .before .before .find2 in
     let c3 = c2 .before .before .before .before .before .before in let p = c3 .q in let b = c3 .before .before .made-by in
-    let j = c3 .before .before .before .before .j2 in let c4 = c3 .before .before .before .before .before .before in let f = c4 .find in
-    let q = c4 .before .path-of in let m = c4 .before .before .before .before .before .m in
+    let j = c3 .before .before .before .before .j2 in let c4 = c3 .before .before .before .before .before .before in let f = c4 .find-near in
+    let q = c4 .before .before .before .path-of in let m = c4 .before .before .before .before .before .m in
     let c5 = c4 .before .before .before .before .before .before .before in let n = c5 .next in let l = c5 .before .loop in let k = l .inv .0 in
     let y = heard k (n .ensures .1) (m .given .1) in (
       gap-opened k y (f .ensures) (j .given .1) (q .ensures) (b .ensures) (p .given .1) (h .ensures) (u .given .1) (d .ensures) (not-false _ (if4 .left))
@@ -795,7 +807,13 @@ replay-spec =
     loop-again
     (λ c. search needs)
     (λ c κs. search needs)
-    find-requires
+    (λ c. search needs)
+    (λ c. search needs)
+    (λ c. search needs)
+    find-near-requires
+    (λ c. search needs)
+    cast-near
+    (λ c. search needs)
     (λ c. search needs)
     mul-s
     element-copy-out-s
@@ -814,7 +832,7 @@ replay-spec =
     same-length-10
     returns-4
     revised-requires
-    mul-t71
+    mul-t79
     element-set-from-t
     add-applied
     loop-less-3
@@ -831,7 +849,7 @@ replay-spec =
     sub-t
     add-applied-2
     sub-find
-    find-requires-2
+    find-requires
     (λ c. search needs)
     (λ c. search needs)
     loop-less-5
@@ -842,7 +860,7 @@ replay-spec =
     mul-stamped-by
     element-copy-out-stamped-by
     (λ c κs. search needs)
-    mul-t98
+    mul-t106
     element-set-from-t-2
     loop-less-6
     loop-again-6
@@ -853,7 +871,7 @@ replay-spec =
     add-ignored-3
     loop-less-7
     loop-again-7
-    find-requires-3
+    find-requires-2
     (λ c. search needs)
     (λ c. search needs)
     add-ignored-4
