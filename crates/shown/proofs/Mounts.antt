@@ -1,5 +1,5 @@
 -- A mount's answer, part by part.
-use Prim.Native.Nat.{ℕ, zero, suc, _-_, _≤_, _<_, zero-le}
+use Prim.Native.Nat.{ℕ, zero, suc, _-_, _≤_, zero-le}
 use mathlib.Core.Path.{_≡_, refl, sym, ap, ap₂, subst, _∙_}
 use mathlib.Core.Logic.{_⊎_, inl, inr, ⊎-elim}
 use mathlib.Core.Bool.{Bool, true, false, cond}
@@ -19,7 +19,7 @@ use Rattle.meaning.specs.declared.Record.{Record}
 use Rattle.meaning.specs.declared.Refusal.{Refusal}
 use Rattle.meaning.specs.declared.Refusal.the-variants as refused
 use Rattle.meaning.specs.Answer.{Answer, ok, no, unless, andThen}
-use Rattle.meaning.specs.Flash.{Lent, Labels, fits, imageOf, labelsOf}
+use Rattle.meaning.specs.Flash.{Lent, fits, imageOf, labelsOf}
 use Rattle.meaning.specs.Labels.{labelRefusal, logPlan}
 use Rattle.meaning.specs.Log.{logOf, replayed, insertion}
 use Rattle.meaning.specs.Replay as meaning
@@ -29,7 +29,7 @@ use Rattle.plan.specs.declared.Selected.{Selected}
 use Rattle.plan.specs.declared.Selected.the-variants as selects
 use Rattle.plan.specs.Select.{chosen, judged, selected}
 use Rattle.extent.specs.Rows.{extentOf}
-use Rattle.runs.specs.Runs.{gather, gatherRows, total, put, Live, Stand}
+use Rattle.runs.specs.Runs.{gatherRows, total, put, Live, Stand}
 use Rattle.runs.proofs.Slots.{gather-rows, rows-length}
 use Rattle.runs.proofs.Moves.{stand-of}
 use Rattle.runs.proofs.Laws.{gathered-runs}
@@ -42,7 +42,6 @@ use Rattle.log.proofs.Sizes.{Sizes, sizes}
 use Rattle.replay.specs.declared.Said.{Said}
 use Rattle.replay.specs.declared.Said.the-variants.{Whole, Refused}
 use Rattle.replay.specs.declared.Replayed.{Replayed}
-use Rattle.change.specs.declared.room.Room.{Room}
 use Rattle.replay.specs.Replay.{answerBy, shape, answerOf, Held, HeldBy, WholeHeld}
 use Rattle.used.specs.declared.Erase.{Erase}
 use Rattle.used.specs.declared.Missing.{Missing}
@@ -53,7 +52,6 @@ use Rattle.used.specs.Erase.{erasable, eraseBy, eraseOf}
 use Rattle.used.proofs.Needed.{absent-is, fit-tags}
 use Rattle.used.proofs.Masks.{masks-are}
 use Rattle.used.proofs.Erasable.{erase-taken}
-use Rattle.shown.specs.declared.Replay.{Replay}
 use Rattle.shown.specs.declared.Shown.{Shown}
 use Rattle.shown.specs.Shown as show
 use Rattle.shown.specs.Shown.{rowsShown, treeOf, answer, Told, mounted, showing, later, placeOf, Silent}
@@ -80,18 +78,31 @@ module _ (r : Replayed) (spans rows : List (List ℕ)) (w : WholeHeld r spans ro
       → Live (r .tree .slots) (r .tree .count) × Stand spans rows (live (r .tree)) × (total spans (live (r .tree)) ≤ length out)
   gather-asks out h = (record { all = held .kept .slots-len; few = held .kept .few }, stands, omega (arith, total-few))
 
+  used-total : r .room .used ≡ total spans (live (r .tree))
+  used-total = omega (
+    arith,
+    rows-length spans rows (live (r .tree)) stands,
+    length-map (gatherRows spans rows (live (r .tree))) extentOf,
+    ap length (gather-rows spans rows (live (r .tree))),
+    held .used,
+  )
+
   module _ (out : List (List ℕ)) {out′ : List (List ℕ)} {n : ℕ} (g : (n ≡ total spans (live (r .tree))) × (out′ ≡ put out 0 (gatherRows spans rows (live (r .tree))))) where
-    pub whole-told : Kept (r .tree) × (n ≤ 1024)
-    whole-told = (held .kept, omega (arith, g .0, total-few))
+    pub whole-told : Told r out′
+    whole-told = subst (λ (s : Said). show.InOrder s r out′) (sym e) (held .kept, omega (arith, used-total, total-few))
 
-    pub whole-answer : {a : Answer meaning.Tree} → answerOf r spans rows ≡ a
-        → ok (record { records = files (r .tree); extents = rowsShown out′ n; applied = r .applied; ignored = r .ignored }) ≡ a
+    pub whole-answer : {a : Answer meaning.Tree} → answerOf r spans rows ≡ a → answer r out′ ≡ a
     whole-answer q =
-        ap {B = Answer meaning.Tree} (λ xs. ok (record { records = files (r .tree); extents = xs; applied = r .applied; ignored = r .ignored })) (gathered-runs spans rows out out′ (live (r .tree)) n stands g)
-        ∙ sym (ap (λ (s : Said). answerBy s (shape (r .tree) spans rows (r .applied) (r .ignored))) e) ∙ q
+        ap {B = Answer meaning.Tree} (λ xs. answerBy (r .said) (record { records = files (r .tree); extents = xs; applied = r .applied; ignored = r .ignored }))
+        (gathered-runs spans rows out out′ (live (r .tree)) (r .room .used) stands (used-total, g .1)) ∙ q
 
-pub stopped-answer : {a : Answer meaning.Tree} {x : Refusal} (r : Replayed) (spans rows : List (List ℕ)) → r .said ≡ Refused x → answerOf r spans rows ≡ a → no x ≡ a
-stopped-answer r spans rows e q = sym (ap (λ (s : Said). answerBy s (shape (r .tree) spans rows (r .applied) (r .ignored))) e) ∙ q
+module _ {x : Refusal} (r : Replayed) (out : List (List ℕ)) (e : r .said ≡ Refused x) where
+  pub stopped-told : Told r out
+  stopped-told = subst (λ (s : Said). show.InOrder s r out) (sym e) tt
+
+  pub stopped-answer : {a : Answer meaning.Tree} (spans rows : List (List ℕ)) → answerOf r spans rows ≡ a → answer r out ≡ a
+  stopped-answer spans rows q =
+      ap (λ (s : Said). answerBy s (treeOf r out)) e ∙ sym (ap (λ (s : Said). answerBy s (shape (r .tree) spans rows (r .applied) (r .ignored))) e) ∙ q
 
 -- ---- what is shown of a tree
 
@@ -120,19 +131,19 @@ module _ (g : Geometry) (l : Lent) (p : Plan) (k : Ready g l p) where
   pub tags-few : length (l .tags) ≤ 1024
   tags-few = omega (arith, sizes g l (k .fit) .tags, sizes g l (k .fit) .blocks)
 
-  module _ (r : Replay) (xs : List (List ℕ)) (n : r .extents ≡ length xs) (records : List Record) {masks : List ℕ} {erase : Erase} {ins : Point}
+  module _ (r : Replayed) (xs : List (List ℕ)) (n : r .room .used ≡ length xs) (records : List Record) {masks : List ℕ} {erase : Erase} {ins : Point}
       (mz : masks ≡ listed 1024 (usedBits (over (length (l .tags)) g) (labelsOf (l .tags) (l .paths)) (map extentOf xs)))
       (ez : erase ≡ eraseOf (eraseBy (length (l .tags)) (labelsOf (l .tags) (l .paths)) p masks))
       (iz : ins ≡ point (insertion g (replayed g (imageOf g l))))
       (rz : take (r .tree .count) records ≡ files (r .tree)) where
-    all-rows : rowsShown xs (r .extents) ≡ map extentOf xs
+    all-rows : rowsShown xs (r .room .used) ≡ map extentOf xs
     all-rows = ap (λ (j : ℕ). rowsShown xs j) n ∙ ap (map extentOf) (take-all xs)
 
     abbrev whole : Shown
     whole = record {
       records = records;
       files = r .tree .count;
-      extents = r .extents;
+      extents = r .room .used;
       used = masks;
       erase = erase;
       insertion = ins;
@@ -144,7 +155,7 @@ module _ (g : Geometry) (l : Lent) (p : Plan) (k : Ready g l p) where
     pub whole-mounted : mounted whole xs ≡ shown g (imageOf g l) (treeOf r xs)
     unfolding shown imageOf
     whole-mounted =
-        ap {B = Mounted} (λ rs. record { tree = record { records = rs; extents = rowsShown xs (r .extents); applied = r .applied; ignored = r .ignored }; erase = take (erase .count) (erase .blocks); insert = placeOf ins }) rz
+        ap {B = Mounted} (λ rs. record { tree = record { records = rs; extents = rowsShown xs (r .room .used); applied = r .applied; ignored = r .ignored }; erase = take (erase .count) (erase .blocks); insert = placeOf ins }) rz
         ∙ ap₂ {C = Mounted} (λ b o. record { tree = treeOf r xs; erase = b; insert = o })
         (erase-taken g l p (map extentOf xs) masks (k .fit) (k .plan) mz erase ez ∙ ap (eraseList g (labelsOf (l .tags) (l .paths))) (sym all-rows))
         (ap placeOf iz ∙ placed-back _)
@@ -178,12 +189,12 @@ part-is rows n = ap (λ (k : ℕ). take k rows) (sub-zero n)
 pub part-length : (rows : List (List ℕ)) (n : ℕ) → n ≤ 1024 → 1024 ≤ length rows → n ≡ length (take (n - 0) (drop 0 rows))
 part-length rows n h k = sym (ap length (part-is rows n) ∙ length-take-le n rows (omega arith))
 
-pub told-few : (r : Replay) (rows : List (List ℕ)) → Told r rows → r .said ≡ Whole → Kept (r .tree) × (r .extents ≤ 1024)
+pub told-few : (r : Replayed) (rows : List (List ℕ)) → Told r rows → r .said ≡ Whole → Kept (r .tree) × (r .room .used ≤ 1024)
 told-few r rows t e = subst (λ (s : Said). show.InOrder s r rows) e t
 
 -- ---- after the labels
 
-module _ (g : Geometry) (l : Lent) (p : Plan) (k : Ready g l p) (r : Replay) (rows : List (List ℕ)) (a : answer r rows ≡ replay (logOf g (replayed g (imageOf g l)))) where
+module _ (g : Geometry) (l : Lent) (p : Plan) (k : Ready g l p) (r : Replayed) (rows : List (List ℕ)) (a : answer r rows ≡ replay (logOf g (replayed g (imageOf g l)))) where
   whole-replay : r .said ≡ Whole → replay (logOf g (replayed g (imageOf g l))) ≡ ok (treeOf r rows)
   whole-replay e = sym a ∙ ap (λ (s : Said). answerBy s (treeOf r rows)) e
 
@@ -191,7 +202,7 @@ module _ (g : Geometry) (l : Lent) (p : Plan) (k : Ready g l p) (r : Replay) (ro
   unfolding later andThen
   later-stopped e = rw (sym a ∙ ap (λ (s : Said). answerBy s (treeOf r rows)) e)
 
-  module _ (e : r .said ≡ Whole) {xs : List (List ℕ)} (xe : xs ≡ take (r .extents) rows) (m : Missing)
+  module _ (e : r .said ≡ Whole) {xs : List (List ℕ)} (xe : xs ≡ take (r .room .used) rows) (m : Missing)
       (z : refusalOf m ≡ absent (over (length (l .tags)) g) (labelsOf (l .tags) (l .paths)) (map extentOf xs)) where
     absent-so : absent g (imageOf g l .labels) (treeOf r rows .extents) ≡ refusalOf m
     unfolding imageOf
@@ -206,7 +217,7 @@ module _ (g : Geometry) (l : Lent) (p : Plan) (k : Ready g l p) (r : Replay) (ro
     later-whole h =
         rw (whole-replay e, absent-so, h)
         (ap {B = Answer Mounted} (λ ys. ok (shown g (imageOf g l) (record { records = files (r .tree); extents = ys; applied = r .applied; ignored = r .ignored })))
-        (sym (same-rows xs rows (r .extents) (r .extents) xe refl)))
+        (sym (same-rows xs rows (r .room .used) (r .room .used) xe refl)))
 
 -- ---- an answer by its parts
 

@@ -2,11 +2,10 @@
 use Prim.Native.Nat.{ℕ, _≤_}
 use mathlib.Core.Path.{_≡_}
 use mathlib.Core.Option.{Option, none, some}
-use mathlib.Core.List.{List, [], map}
-use lib.ListN.{length, take}
+use mathlib.Core.List.{List, map}
+use lib.ListN.{take}
 use Rattle.meaning.specs.declared.Extent.{Extent}
 use Rattle.meaning.specs.declared.Geometry.{Geometry}
-use Rattle.meaning.specs.declared.Refusal.{Refusal}
 use Rattle.meaning.specs.Answer.{Answer, ok, unless, andThen}
 use Rattle.meaning.specs.Flash.{Lent, imageOf}
 use Rattle.meaning.specs.Log.{logOf, replayed}
@@ -17,11 +16,11 @@ use Rattle.extent.specs.Rows.{extentOf}
 use Rattle.tree.specs.Tree.{files, Kept}
 use Rattle.log.specs.declared.insertion.Point.{Point}
 use Rattle.log.specs.declared.insertion.Point.the-variants.{At, Nowhere}
+use Rattle.replay.specs.declared.Replayed.{Replayed}
 use Rattle.replay.specs.declared.Said.{Said}
 use Rattle.replay.specs.declared.Said.the-variants.{Whole, Refused}
 use Rattle.replay.specs.Replay.{answerBy}
 use Rattle.used.specs.Bits.{listed, usedBits}
-use Rattle.shown.specs.declared.Replay.{Replay}
 use Rattle.shown.specs.declared.Shown.{Shown}
 
 -- the first n rows as extents
@@ -30,18 +29,18 @@ rowsShown rows n = map extentOf (take n rows)
 
 -- ---- the tree after the log
 
-abbrev pub treeOf : Replay → List (List ℕ) → meaning.Tree
-treeOf r rows = record { records = files (r .tree); extents = rowsShown rows (r .extents); applied = r .applied; ignored = r .ignored }
+abbrev pub treeOf : Replayed → List (List ℕ) → meaning.Tree
+treeOf r rows = record { records = files (r .tree); extents = rowsShown rows (r .room .used); applied = r .applied; ignored = r .ignored }
 
-abbrev pub answer : Replay → List (List ℕ) → Answer meaning.Tree
+abbrev pub answer : Replayed → List (List ℕ) → Answer meaning.Tree
 answer r rows = answerBy (r .said) (treeOf r rows)
 
 -- a whole replay's tree stands in order, and there are rows for its extents
-abbrev pub InOrder : Said → Replay → List (List ℕ) → Type 0
-InOrder Whole r rows = Kept (r .tree) × (r .extents ≤ 1024)
+abbrev pub InOrder : Said → Replayed → List (List ℕ) → Type 0
+InOrder Whole r rows = Kept (r .tree) × (r .room .used ≤ 1024)
 InOrder (Refused x) r rows = Unit {0}
 
-abbrev pub Told : Replay → List (List ℕ) → Type 0
+abbrev pub Told : Replayed → List (List ℕ) → Type 0
 Told r rows = InOrder (r .said) r rows
 
 -- ---- the answer

@@ -18,8 +18,8 @@ use meaning::Plan;
 use meaning::Record;
 use meaning::Refusal;
 use plan::Selected;
+use replay::Replayed;
 use replay::Said;
-use tree::Tree;
 use used::Erase;
 use used::Missing;
 
@@ -39,15 +39,8 @@ pub struct Shown {
     pub said: Said,
 }
 
-// The tree after the log, and its extents in order.
-struct Replay {
-    tree: Tree,
-    extents: usize,
-    applied: u64,
-    ignored: u64,
-    said: Said,
-}
-
+// The tree after the log; its extents stand in order, `room.used` rows. What replay answered is handed on as it is: the records
+// are copied no more than they must be.
 fn replay_log(
     g: Geometry,
     tags: &[u8],
@@ -55,7 +48,7 @@ fn replay_log(
     contents: &[u8],
     p: Plan,
     extents: &mut [[u32; 4]],
-) -> Replay
+) -> Replayed
     requires { ⌜ Ready g (lent (now tags) (now paths) (now contents)) p × (1024 ≤ length (now extents)) ⌝ }
     ensures { λ r. ⌜ answer r (now (extents .exit)) ≡ theReplay (logOf g (replayed g (imageOf g (lent (now (tags .entry)) (now (paths .entry)) (now (contents .entry)))))) ⌝ }
     ensures { λ r. ⌜ Told r (now (extents .exit)) ⌝ }
@@ -63,25 +56,14 @@ fn replay_log(
     let mut spans = [[0u32; 3]; 256];
     let mut rows = [[0u32; 4]; 4096];
     let r = replay::replay(g, tags, paths, contents, p, &mut spans, &mut rows, extents);
-    let tree = r.tree;
     let said = r.said;
     match said {
-        Said::Refused(x) => Replay {
-            tree,
-            extents: 0,
-            applied: 0,
-            ignored: 0,
-            said: Said::Refused(x),
-        },
+        Said::Refused(_) => r,
         Said::Whole => {
-            let n = runs::gathered(&spans, &rows, &tree.slots, tree.count, extents);
-            return Replay {
-                tree,
-                extents: n,
-                applied: r.applied,
-                ignored: r.ignored,
-                said: Said::Whole,
-            };
+            let slots = r.tree.slots;
+            let n = r.tree.count;
+            runs::gathered(&spans, &rows, &slots, n, extents);
+            return r;
         }
     }
 }
@@ -127,11 +109,11 @@ fn whole(
     paths: &[u64],
     contents: &[u8],
     p: Plan,
-    r: Replay,
+    r: Replayed,
     xs: &[[u32; 4]],
 ) -> Shown
-    requires { ⌜ Ready g (lent (now tags) (now paths) (now contents)) p × Kept (r .tree) × (r .extents ≡ length (now xs)) × (length (now xs) ≤ 1024) ⌝ }
-    ensures { λ x. ⌜ (x .said ≡ Whole) × (x .extents ≡ r .extents) × (mounted x (now (xs .entry)) ≡ theShown g (imageOf g (lent (now (tags .entry)) (now (paths .entry)) (now (contents .entry)))) (treeOf r (now (xs .entry)))) × Sizes Whole g (lent (now (tags .entry)) (now (paths .entry)) (now (contents .entry))) x (now (xs .entry)) ⌝ }
+    requires { ⌜ Ready g (lent (now tags) (now paths) (now contents)) p × Kept (r .tree) × (r .room .used ≡ length (now xs)) × (length (now xs) ≤ 1024) ⌝ }
+    ensures { λ x. ⌜ (x .said ≡ Whole) × (x .extents ≡ r .room .used) × (mounted x (now (xs .entry)) ≡ theShown g (imageOf g (lent (now (tags .entry)) (now (paths .entry)) (now (contents .entry)))) (treeOf r (now (xs .entry)))) × Sizes Whole g (lent (now (tags .entry)) (now (paths .entry)) (now (contents .entry))) x (now (xs .entry)) ⌝ }
 {
     let used = used::used_bits(g, tags, paths, xs);
     let erase = used::erase_list(tags, paths, p, &used);
@@ -140,7 +122,7 @@ fn whole(
     Shown {
         records,
         files: r.tree.count,
-        extents: r.extents,
+        extents: r.room.used,
         used,
         erase,
         insertion,
@@ -168,7 +150,7 @@ fn planned(
     match said {
         Said::Refused(x) => refused(x),
         Said::Whole => {
-            let n = r.extents;
+            let n = r.room.used;
             let xs = &extents[0..n];
             match used::absent(g, tags, paths, xs) {
                 Missing::Path(q) => {

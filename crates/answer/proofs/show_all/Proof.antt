@@ -1,0 +1,38 @@
+-- `answer::show_all` meets its contract.
+-- Assumes nothing.
+use mathlib.Core.Path.{refl}
+use native.Mathlib.Omega.{arith}
+use Rattle.answer.proofs.Laws.{few-shown, cored, cored-other}
+use borrow.Author.Needs.{needs}
+use Rattle.answer.proofs.show_all.Statement.{statement}
+use Rattle.answer.proofs.show_all.Tie as tie
+
+pub show-all-spec : {M : Type 1} → statement M
+show-all-spec =
+    tie.close
+    (tie.spec
+    (λ c κs. search needs)
+    (λ c. cored-other _ _ _ (c .refused .result) (λ h. omega (arith, h)) (c .refused .ensures))
+    (λ c. search needs)
+    (λ c κs. search needs)
+    (λ c. search needs)
+    (λ c κs. let s = c .before .before .show in
+    let k = few-shown _ _ (s .result) (s .last .1 .1 .1 .1 .0) (s .ensures .1) in
+    (k .1, omega (arith, k .1)))
+    (λ c. let s = c .before .before .before .before .before .before .show in
+    let x = c .before .before .before .extents-of in
+    cored _ _ (s .result) (s .last .1 .1 .1 .1 .0) (x .result) (x .ensures) _ _ (omega arith)
+    (record {
+      n = omega arith;
+      records = omega arith;
+      runs = omega arith;
+      applied = omega arith;
+      ignored = omega arith;
+      all = refl;
+      extents = refl;
+      used = refl;
+      erase = refl;
+      insertion = refl;
+      said = refl;
+    })
+    (s .ensures .0) (s .ensures .1)))

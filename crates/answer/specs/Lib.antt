@@ -1,0 +1,2 @@
+-- What a mount answers.
+pub mod Mounted

@@ -1,0 +1,58 @@
+-- The answer of a mount that fills a lent table, as document 01 has it.
+use Prim.Native.Nat.{ℕ, _≤_}
+use mathlib.Core.Path.{_≡_}
+use mathlib.Core.List.{List}
+use lib.Dec.{eqb}
+use lib.ListN.{take}
+use Rattle.base.specs.Choice.{ifTrue}
+use Rattle.meaning.specs.declared.Geometry.{Geometry}
+use Rattle.meaning.specs.declared.Record.{Record}
+use Rattle.meaning.specs.declared.Refusal.the-variants as refused
+use Rattle.meaning.specs.Answer.{Answer, no}
+use Rattle.meaning.specs.Flash.{Lent, imageOf}
+use Rattle.meaning.specs.Mount as meaning
+use Rattle.meaning.specs.Mount.{mountOf}
+use Rattle.replay.specs.declared.Said.{Said}
+use Rattle.replay.specs.declared.Said.the-variants.{Whole, Refused}
+use Rattle.replay.specs.Replay.{answerBy}
+use Rattle.used.specs.Bits.{listed, usedBits}
+use Rattle.shown.specs.Shown.{placeOf}
+use Rattle.answer.specs.declared.Core.{Core}
+use Rattle.answer.specs.declared.Mounted.{Mounted}
+
+-- what the answer shows, the records being the table's first
+abbrev pub mounted : Mounted → List Record → meaning.Mounted
+mounted r table = record {
+  tree = record { records = take (r .records) table; extents = take (r .runs) (r .extents); applied = r .applied; ignored = r .ignored };
+  erase = take (r .erase .count) (r .erase .blocks);
+  insert = placeOf (r .insertion);
+}
+
+abbrev pub standsFor : Mounted → List Record → Answer meaning.Mounted
+standsFor r table = answerBy (r .said) (mounted r table)
+
+-- a refusal shows nothing
+abbrev pub Silent : Mounted → Type 0
+Silent r = (r .records ≡ 0) × (r .runs ≡ 0) × (r .erase .count ≡ 0)
+
+-- the counts are within the arrays, and the used pages are those of the extents
+abbrev pub Sizes : Said → Geometry → Lent → Mounted → Type 0
+Sizes Whole g l r =
+    (r .records ≤ 256) × (r .runs ≤ 1024) × (r .erase .count ≤ 1024)
+    × (r .used ≡ listed 1024 (usedBits g (imageOf g l .labels) (take (r .runs) (r .extents))))
+Sizes (Refused x) g l r = Silent r
+
+abbrev pub Sized : Geometry → Lent → Mounted → Type 0
+Sized g l r = Sizes (r .said) g l r
+
+-- ---- the core, which sees no table but its length
+
+unfoldable pub mountIn : Geometry → Lent → ℕ → Answer meaning.Mounted
+mountIn g l places = ifTrue (eqb places 256) (mountOf g l) (no refused.Geometry)
+
+pub record Cored (g : Geometry) (l : Lent) (places : ℕ) (r : Core) : Type 0 where
+  pub same : r .answer .records ≡ r .n
+  pub few : r .n ≤ 256
+  pub room : r .n ≤ places
+  pub shows : standsFor (r .answer) (r .all) ≡ mountIn g l places
+  pub sized : Sized g l (r .answer)

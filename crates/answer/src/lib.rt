@@ -1,0 +1,143 @@
+// What a mount answers, by value: all that is shown, with the records beside it. Nothing that is lent is changed here.
+ghost use mathlib.Core.Path.{_≡_};
+ghost use Prim.Native.Nat.{_≤_};
+ghost use mathlib.Core.List.{map};
+ghost use lib.ListN.{length, take};
+ghost use Rattle.plan.specs.Select.{lent};
+ghost use Rattle.extent.specs.Rows.{extentOf};
+ghost use Rattle.meaning.specs.declared.Refusal.the-variants as no;
+ghost use Rattle.replay.specs.declared.Said.the-variants.{Refused};
+ghost use Rattle.answer.specs.Mounted.{Silent, Cored};
+use log::insertion::Point;
+use meaning::Extent;
+use meaning::Geometry;
+use meaning::Place;
+use meaning::Record;
+use meaning::Refusal;
+use replay::Said;
+use used::Erase;
+
+/// What a mount answers. The records stand in the lent table.
+pub struct Mounted {
+    /// How many.
+    pub records: usize,
+    /// The first `runs`, by path and offset.
+    pub extents: [Extent; 1024],
+    pub runs: usize,
+    /// A bit a page, for each physical block.
+    pub used: [u32; 1024],
+    pub erase: Erase,
+    pub insertion: Point,
+    pub applied: u64,
+    pub ignored: u64,
+    pub said: Said,
+}
+
+/// The answer, and the first n records for the table.
+pub struct Core {
+    pub all: [Record; 256],
+    pub n: usize,
+    pub answer: Mounted,
+}
+
+// The first n rows.
+fn extents_of(rows: &[[u32; 4]], n: usize) -> [Extent; 1024]
+    requires { ⌜ (n ≤ 1024) × (n ≤ length (now rows)) ⌝ }
+    ensures { λ r. ⌜ take n r ≡ map extentOf (take n (now (rows .entry))) ⌝ }
+{
+    let zero = Extent {
+        path: 0,
+        offset: 0,
+        count: 0,
+        address: 0,
+    };
+    let mut extents = [zero; 1024];
+    let mut k: usize = 0;
+    while k < n {
+        let row = rows[k];
+        extents[k] = Extent {
+            path: row[0],
+            offset: row[1],
+            count: row[2],
+            address: row[3],
+        };
+        k += 1;
+    }
+    extents
+}
+
+// GEOMETRY: "a slice length is wrong".
+fn refused() -> Core
+    ensures { λ r. ⌜ (r .n ≡ 0) × (r .answer .said ≡ Refused no.Geometry) × Silent (r .answer) ⌝ }
+{
+    let none = Place { at: 0, len: 0 };
+    let empty = Record {
+        path: 0,
+        parent: 0,
+        perm: 0,
+        length: 0,
+        cvers: 0,
+        mtime: 0,
+        name: none,
+        uid: none,
+        gid: none,
+        muid: none,
+    };
+    let zero = Extent {
+        path: 0,
+        offset: 0,
+        count: 0,
+        address: 0,
+    };
+    let erase = Erase {
+        blocks: [0; 1024],
+        count: 0,
+    };
+    Core {
+        all: [empty; 256],
+        n: 0,
+        answer: Mounted {
+            records: 0,
+            extents: [zero; 1024],
+            runs: 0,
+            used: [0; 1024],
+            erase,
+            insertion: Point::Nowhere,
+            applied: 0,
+            ignored: 0,
+            said: Said::Refused(Refusal::Geometry),
+        },
+    }
+}
+
+/// All that a mount shows, where the table has so many places; any but 256 are refused. A refusal has no records.
+pub fn show_all(g: Geometry, tags: &[u8], paths: &[u64], contents: &[u8], places: usize) -> Core
+    ensures { λ r. ⌜ Cored g (lent (now (tags .entry)) (now (paths .entry)) (now (contents .entry))) places r ⌝ }
+{
+    if places != 256 {
+        return refused();
+    }
+    let mut rows = [[0u32; 4]; 1024];
+    let s = shown::show(g, tags, paths, contents, &mut rows);
+    let extents = extents_of(&rows, s.extents);
+    let all = s.records;
+    let used = s.used;
+    let erase = s.erase;
+    let insertion = s.insertion;
+    let said = s.said;
+    Core {
+        all,
+        n: s.files,
+        answer: Mounted {
+            records: s.files,
+            extents,
+            runs: s.extents,
+            used,
+            erase,
+            insertion,
+            applied: s.applied,
+            ignored: s.ignored,
+            said,
+        },
+    }
+}
