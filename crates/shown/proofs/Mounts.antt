@@ -51,7 +51,7 @@ use Rattle.used.specs.Bits.{listed, usedBits}
 use Rattle.used.specs.Erase.{erasable, eraseBy, eraseOf}
 use Rattle.used.proofs.Needed.{absent-is, fit-tags}
 use Rattle.used.proofs.Masks.{masks-are}
-use Rattle.used.proofs.Erasable.{erase-taken}
+use Rattle.used.proofs.Erasable.{erase-is, erase-taken}
 use Rattle.shown.specs.declared.Shown.{Shown}
 use Rattle.shown.specs.Shown as show
 use Rattle.shown.specs.Shown.{rowsShown, treeOf, answer, Told, mounted, showing, later, placeOf, Silent}
@@ -171,6 +171,7 @@ module _ (g : Geometry) (l : Lent) (p : Plan) (k : Ready g l p) where
       omega arith,
       subst (λ (x : Erase). x .count ≤ 1024) (sym ez) erase-few,
       masks-are 1024 g l (labelsOf (l .tags) (l .paths)) (map extentOf xs) (k .fit) mz ∙ ap (λ (ys : List Extent). listed 1024 (usedBits g (labelsOf (l .tags) (l .paths)) ys)) (sym all-rows),
+      ez ∙ ap eraseOf (erase-is g l p (map extentOf xs) masks (k .fit) (k .plan) mz ∙ ap (eraseList g (labelsOf (l .tags) (l .paths))) (sym all-rows)),
     )
 
 take-same : {A : Type 0} (n : ℕ) (xs : List A) → take n (take n xs) ≡ take n xs
@@ -238,8 +239,13 @@ whole-shows s xs rows n xe ne e h z =
     ∙ ap {B = Answer Mounted} ok h ∙ sym z
 
 pub whole-sized : (g : Geometry) (l : Lent) (s : Shown) (xs rows : List (List ℕ)) (n : ℕ) → xs ≡ take n rows → s .extents ≡ n → s .said ≡ Whole → show.Sizes Whole g l s xs → show.Sized g l s rows
-whole-sized g l s xs rows n xe ne e h = subst (λ (y : Said). show.Sizes y g l s rows) (sym e)
-    (h .0, h .1, h .2, h .3 ∙ ap (λ (ys : List Extent). listed 1024 (usedBits g (imageOf g l .labels) ys)) (same-rows xs rows n (s .extents) xe ne))
+whole-sized g l s xs rows n xe ne e h = subst (λ (y : Said). show.Sizes y g l s rows) (sym e) (
+  h .0,
+  h .1,
+  h .2,
+  h .3 ∙ ap (λ (ys : List Extent). listed 1024 (usedBits g (imageOf g l .labels) ys)) (same-rows xs rows n (s .extents) xe ne),
+  h .4 ∙ ap (λ (ys : List Extent). eraseOf (eraseList g (imageOf g l .labels) ys)) (same-rows xs rows n (s .extents) xe ne),
+)
 
 -- ---- the labels
 

@@ -11,7 +11,7 @@ use Rattle.meaning.specs.Flash.{Lent, imageOf}
 use Rattle.meaning.specs.Log.{logOf, replayed}
 use Rattle.meaning.specs.Replay as meaning
 use Rattle.meaning.specs.Replay.{replay}
-use Rattle.meaning.specs.Mount.{Mounted, absent, shown}
+use Rattle.meaning.specs.Mount.{Mounted, absent, eraseList, shown}
 use Rattle.extent.specs.Rows.{extentOf}
 use Rattle.tree.specs.Tree.{files, Kept}
 use Rattle.log.specs.declared.insertion.Point.{Point}
@@ -21,6 +21,7 @@ use Rattle.replay.specs.declared.Said.{Said}
 use Rattle.replay.specs.declared.Said.the-variants.{Whole, Refused}
 use Rattle.replay.specs.Replay.{answerBy}
 use Rattle.used.specs.Bits.{listed, usedBits}
+use Rattle.used.specs.Erase.{eraseOf}
 use Rattle.shown.specs.declared.Shown.{Shown}
 
 -- the first n rows as extents
@@ -71,11 +72,12 @@ later g l =
 abbrev pub Silent : Shown → Type 0
 Silent r = (r .files ≡ 0) × (r .extents ≡ 0) × (r .erase .count ≡ 0)
 
--- the counts are within the arrays, and the used pages are those of the extents
+-- the counts are within the arrays, the used pages are those of the extents, and 0 stands past the erase list
 abbrev pub Sizes : Said → Geometry → Lent → Shown → List (List ℕ) → Type 0
 Sizes Whole g l r rows =
     (r .files ≤ 256) × (r .extents ≤ 1024) × (r .erase .count ≤ 1024)
     × (r .used ≡ listed 1024 (usedBits g (imageOf g l .labels) (rowsShown rows (r .extents))))
+    × (r .erase ≡ eraseOf (eraseList g (imageOf g l .labels) (rowsShown rows (r .extents))))
 Sizes (Refused x) g l r rows = Silent r
 
 abbrev pub Sized : Geometry → Lent → Shown → List (List ℕ) → Type 0

@@ -1,0 +1,2 @@
+-- What a reclaim answers.
+pub mod Reclaimed
