@@ -22,11 +22,11 @@ use Rattle.reclaim.specs.Reclaimed.{stepOf, stepsBy}
 
 -- ---- one more
 
-pub added : (steps : List Listed) (i : ℕ) (x : Listed) → i < length steps
-    → map stepOf (take (i + 1) (set steps i x)) ≡ map stepOf (take i steps) ++ (stepOf x ∷ [])
-added steps i x h =
+pub added : (steps : List Listed) (i n : ℕ) (x : Listed) → i < length steps → i ≡ n
+    → map stepOf (take (i + 1) (set steps i x)) ≡ map stepOf (take n steps) ++ (stepOf x ∷ [])
+added steps i n x h e = rw (sym e) (
     ap (λ (k : ℕ). map stepOf (take k (set steps i x))) (add-one i)
-    ∙ ap (map stepOf) (take-suc-set steps i x h) ∙ map-append stepOf (take i steps) (x ∷ [])
+    ∙ ap (map stepOf) (take-suc-set steps i x h) ∙ map-append stepOf (take i steps) (x ∷ []))
 
 -- v is what the code says of place i
 module _ (q : ℕ → Bool) {v : Bool} (i : ℕ) (e : v ≡ q i) where
@@ -51,10 +51,10 @@ module _ (q : ℕ → Bool) {v : Bool} (i : ℕ) (e : v ≡ q i) where
 
 -- ---- the parts
 
-pub block-blank : {r : Bool} (g : Geometry) (xs : List ℕ) (i s : ℕ) → s ≡ blockSize g → r ≡ blank (take (i * s + s - i * s) (drop (i * s) xs))
+pub block-blank : {r : Bool} (g : Geometry) (xs : List ℕ) (i a e : ℕ) → a ≡ i * blockSize g → e ≡ a + blockSize g → r ≡ blank (take (e - a) (drop a xs))
     → r ≡ writable (imageOf g (lent [] [] xs)) i
 unfolding writable imageOf begins
-block-blank g xs i s e f = let z : i * s + s - i * s ≡ s = omega arith in f ∙ rw (z, e)
+block-blank g xs i a e p q f = let z : e - a ≡ blockSize g = omega arith in f ∙ rw (z, p)
 
 pub renews : {copy next w : ℕ} (tags paths : List ℕ) (d old : ℕ) → w ≡ labelsOf tags paths .path old → copy ≡ copyOf w → next ≡ successor copy
     → d * 4 + next ≡ renewedPath (labelsOf tags paths) d old

@@ -54,16 +54,16 @@ fn empty() -> Steps
     }
 }
 
-fn add(l: Steps, s: Step) -> Steps
-    requires { ⌜ Listing 34 l ⌝ }
+// The list with a step at its end, whose place the caller tells.
+fn add(l: Steps, at: usize, s: Step) -> Steps
+    requires { ⌜ Listing 34 l × (at ≡ l .count) ⌝ }
     ensures { λ r. ⌜ (stepsIn r ≡ stepsIn l ++ (s ∷ [])) × (length (r .steps) ≡ 35) × (r .count ≡ l .count + 1) ⌝ }
 {
     let mut steps = l.steps;
-    let i = l.count;
-    steps[i] = Listed { step: s };
+    steps[at] = Listed { step: s };
     Steps {
         steps,
-        count: i + 1,
+        count: at + 1,
     }
 }
 
@@ -98,6 +98,14 @@ fn lowest_free(tags: &[u8], paths: &[u64]) -> Block
     Block(0)
 }
 
+// Whether the bytes of block b, from `at` up to `end`, are blank.
+fn are_blank(g: Geometry, contents: &[u8], b: Block, at: usize, end: usize) -> bool
+    requires { ⌜ (at ≡ b .0 * blockSize g) × (end ≡ at + blockSize g) × (end ≤ length (now contents)) ⌝ }
+    ensures { λ r. ⌜ r ≡ writable (imageOf g (lent [] [] (now (contents .entry)))) (b .0) ⌝ }
+{
+    message::is_blank(&contents[at..end])
+}
+
 // A free tag does not say that the pages are blank.
 fn is_writable(g: Geometry, contents: &[u8], b: Block) -> bool
     requires { ⌜ (length (now contents) ≡ g .blocks * blockSize g) × (b .0 < g .blocks) ⌝ }
@@ -106,7 +114,7 @@ fn is_writable(g: Geometry, contents: &[u8], b: Block) -> bool
     let size = label::block_size(g) as usize;
     let at = b.0 * size;
     let end = at + size;
-    message::is_blank(&contents[at..end])
+    are_blank(g, contents, b, at, end)
 }
 
 // ---- the list, part by part
@@ -120,7 +128,7 @@ fn clear_target(g: Geometry, contents: &[u8], b: Block) -> Steps
     if is_writable(g, contents, b) {
         return none;
     }
-    add(none, Step::Erase(b))
+    add(none, none.count, Step::Erase(b))
 }
 
 // "(2) Write each used page, ascending, to the same page of the target."
@@ -137,6 +145,7 @@ fn write_pages(g: Geometry, mask: u32, old: Block, target: Block, l: Steps) -> S
         if used::has_page(mask, page) {
             r = add(
                 r,
+                r.count,
                 Step::PageWrite {
                     from: old,
                     to: target,
@@ -177,13 +186,14 @@ fn list_steps(
     let path = renewed_path(tags, paths, number, old);
     let labelled = add(
         pages,
+        pages.count,
         Step::LabelWrite {
             block: target,
             tag: Label::DATA,
             path,
         },
     );
-    add(labelled, Step::Erase(old))
+    add(labelled, labelled.count, Step::Erase(old))
 }
 
 // ---- the answer

@@ -18,6 +18,13 @@ clear-target-spec =
     (tie.spec
     (λ c κs. search needs)
     (λ c κs. search needs)
-    (λ c. let none = c .before .before .empty in (yes _ _ _ (c .before .is-writable .ensures) (c .if1 .taken) (none .ensures .0), (none .ensures .1 .0, omega (arith, none .ensures .1 .1))))
-    (λ c κs. let none = c .before .before .empty in (none .ensures .1 .0, omega (arith, none .ensures .1 .1)))
-    (λ c. let none = c .before .before .before .empty in let s = c .before .before .before .before .before in (no _ _ _ (c .before .before .is-writable .ensures) (c .before .if1 .left) (c .add .ensures .0 ∙ ap (λ (l : List Step). l ++ (Erase (s .args .b) ∷ [])) (none .ensures .0)), (c .add .ensures .1, omega (arith, none .ensures .1 .1, c .add .ensures .2)))))
+    (λ c. let none = c .before .before .empty in (
+      yes _ _ _ (c .before .is-writable .ensures) (c .if1 .taken) (none .ensures .0),
+      (none .ensures .1 .0, omega (arith, none .ensures .1 .1)),
+    ))
+    (λ c κs. let none = c .before .before .empty in ((none .ensures .1 .0, omega (arith, none .ensures .1 .1)), omega arith))
+    (λ c. let none = c .before .before .before .empty in let s = c .before .before .before .before .before in (
+      no _ _ _ (c .before .before .is-writable .ensures) (c .before .if1 .left) (c .add .ensures .0 ∙ ap (λ (l : List Step). l ++ (Erase (s .args .b) ∷ []))
+          (none .ensures .0)),
+      (c .add .ensures .1, omega (arith, none .ensures .1 .1, c .add .ensures .2)),
+    )))

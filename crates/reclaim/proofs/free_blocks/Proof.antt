@@ -25,11 +25,21 @@ loop-holds c = (omega arith, omega arith, refl)
 
 loop-again : tie.Need-loop-again Inv-loop μ-loop
 unfolding isFree
-loop-again c = let l = c .before .before .before .loop in (omega arith, omega arith, count-yes _ (l .i) (c .before .is-tag .ensures) (c .if1 .taken) (l .inv .2))
+loop-again c = let l = c .before .before .before .loop in (
+  omega arith,
+  omega arith,
+  count-yes _ (l .i) (c .before .is-tag .ensures) (c .if1 .taken)
+      (l .inv .2),
+)
 
 loop-again-2 : tie.Need-loop-again-2 Inv-loop μ-loop
 unfolding isFree
-loop-again-2 c = let l = c .before .before .before .loop in (omega arith, omega arith, count-no _ (l .i) (c .before .is-tag .ensures) (c .if1 .left) (l .inv .2))
+loop-again-2 c = let l = c .before .before .before .loop in (
+  omega arith,
+  omega arith,
+  count-no _ (l .i) (c .before .is-tag .ensures) (c .if1 .left)
+      (l .inv .2),
+)
 
 returns : tie.Need-returns Inv-loop μ-loop
 unfolding freeBlocks

@@ -16,8 +16,17 @@ list-spec =
     (λ c κs. search needs)
     (λ c. search needs)
     (λ c. search needs)
-    (λ c κs. let w = c .before .before .before .before .before .before .show in shown-fit _ _ (c .before .before .before .before .before .before .before .before .before .before .before .args .number) (w .result) _ (w .ensures .0) (c .before .before .before .enum-told .given .1))
-    (λ c. let w = c .before .before .before .before .before .before .before .show in
-    (c .list-on .ensures .0 ∙ by-shown _ _ (c .before .before .before .before .before .before .before .before .before .before .before .before .args .number) (w .result) _ (w .ensures .0) (c .before .before .before .before .enum-told .given .1) (w .ensures .1), c .list-on .ensures .1))
-    (λ c. let w = c .before .before .before .before .before .show in let r = c .refused in
-    (refused-answer (r .result) (r .ensures) (by-refusal _ _ (c .before .before .before .before .before .before .before .before .before .before .args .number) (w .result) _ (w .ensures .0) (c .before .before .said .given .1)), refused-counted (r .result) (r .ensures))))
+    (λ c κs. let w = c .before .before .before .before .before .before .show in shown-fit _ _
+    (c .before .before .before .before .before .before .before .before .before .before .before .args .number) (w .result) _ (w .ensures .0)
+    (c .before .before .before .enum-told .given .1))
+    (λ c. let w = c .before .before .before .before .before .before .before .show in (
+      c .list-on .ensures .0 ∙ by-shown _ _ (c .before .before .before .before .before .before .before .before .before .before .before .before .args .number)
+          (w .result) _ (w .ensures .0) (c .before .before .before .before .enum-told .given .1) (w .ensures .1),
+      c .list-on .ensures .1,
+    ))
+    (λ c. let w = c .before .before .before .before .before .show in let r = c .refused in (
+      refused-answer (r .result) (r .ensures) (by-refusal _ _
+          (c .before .before .before .before .before .before .before .before .before .before .args .number) (w .result) _ (w .ensures .0)
+          (c .before .before .said .given .1)),
+      refused-counted (r .result) (r .ensures),
+    )))

@@ -15,33 +15,46 @@ list-on-spec =
     tie.close
     (tie.spec
     (λ c κs. search needs)
-    (λ c. let s = c .before .before .before .before .before .before in let r = c .refused in (refused-answer (r .result) (r .ensures) (by-unsettled (s .args .g) (lent (now (s .args .tags)) (now (s .args .paths)) (now (s .args .contents))) (s .pre) (s .args .number) (now (s .args .masks)) (s .args .unsettled) (c .before .if1 .taken)), refused-counted (r .result) (r .ensures)))
+    (λ c. let s = c .before .before .before .before .before .before in let r = c .refused in (
+      refused-answer (r .result) (r .ensures) (by-unsettled
+          (s .args .g) (lent (now (s .args .tags)) (now (s .args .paths)) (now (s .args .contents))) (s .pre) (s .args .number) (now (s .args .masks))
+          (s .args .unsettled) (c .before .if1 .taken)),
+      refused-counted (r .result) (r .ensures),
+    ))
     (λ c κs. search needs)
     (λ c. search needs)
     (λ c. search needs)
     (λ c κs. search needs)
     (λ c. let s = c .before .before .before .before .before .before .before .before .before in let r = c .refused2 in (
-      refused-answer (r .result) (r .ensures) (by-absent (s .args .g) (lent (now (s .args .tags)) (now (s .args .paths)) (now (s .args .contents))) (s .pre) (s .args .number) (now (s .args .masks)) (s .args .unsettled) (c .before .before .before .before .if1 .left)
+      refused-answer (r .result) (r .ensures) (by-absent (s .args .g) (lent (now (s .args .tags)) (now (s .args .paths)) (now (s .args .contents))) (s .pre)
+          (s .args .number) (now (s .args .masks)) (s .args .unsettled) (c .before .before .before .before .if1 .left)
           (c .before .before .before .find-data .ensures) (c .before .enum-told .given .1)),
       refused-counted (r .result) (r .ensures),
     ))
     (λ c κs. search needs)
     (λ c κs. search needs)
     (λ c. let s = c .before .before .before .before .before .before .before .before .before .before .before .before in let r = c .refused3 in (
-      refused-answer (r .result) (r .ensures) (by-few (s .args .g) (lent (now (s .args .tags)) (now (s .args .paths)) (now (s .args .contents))) (s .pre) (s .args .number) (now (s .args .masks)) (s .args .unsettled) (c .before .before .before .before .before .before .before .if1 .left)
-          (c .before .before .before .before .before .before .find-data .ensures) (c .before .before .before .before .old .given .0 .0) (c .before .before .before .before .old .given .1)
+      refused-answer (r .result) (r .ensures) (by-few (s .args .g) (lent (now (s .args .tags)) (now (s .args .paths)) (now (s .args .contents))) (s .pre)
+          (s .args .number) (now (s .args .masks)) (s .args .unsettled) (c .before .before .before .before .before .before .before .if1 .left)
+          (c .before .before .before .before .before .before .find-data .ensures) (c .before .before .before .before .old .given .0 .0)
+          (c .before .before .before .before .old .given .1)
           (c .before .before .free-blocks .ensures .0) (omega (arith, c .before .if2 .taken))),
       refused-counted (r .result) (r .ensures),
     ))
     (λ c κs. search needs)
     (λ c κs. search needs)
-    (λ c κs. let s = c .before .before .before .before .before .before .before .before .before .before .before .before .before in let free = c .before .before .before .free-blocks in
+    (λ c κs. let s = c .before .before .before .before .before .before .before .before .before .before .before .before .before in
+    let free = c .before .before .before .free-blocks in
     let n = sizes (s .args .g) (lent (now (s .args .tags)) (now (s .args .paths)) (now (s .args .contents))) (s .pre) .tags in
     (s .pre, omega (arith, n, c .before .lowest-free .ensures .1 (omega (arith, free .ensures .1, c .before .before .if2 .left)))))
-    (λ c. let s = c .before .before .before .before .before .before .before .before .before .before .before .before .before .before in let free = c .before .before .before .before .free-blocks in (
-      by-steps (s .args .g) (lent (now (s .args .tags)) (now (s .args .paths)) (now (s .args .contents))) (s .pre) (s .args .number) (now (s .args .masks)) (s .args .unsettled) (c .before .before .before .before .before .before .before .before .before .if1 .left)
-          (c .before .before .before .before .before .before .before .before .find-data .ensures) (c .before .before .before .before .before .before .old .given .0 .0)
-          (c .before .before .before .before .before .before .old .given .1) (free .ensures .0) _ _ (omega (arith, c .before .before .before .if2 .left)) (c .before .before .lowest-free .ensures .0)
+    (λ c. let s = c .before .before .before .before .before .before .before .before .before .before .before .before .before .before in
+    let free = c .before .before .before .before .free-blocks in (
+      by-steps (s .args .g) (lent (now (s .args .tags)) (now (s .args .paths)) (now (s .args .contents))) (s .pre) (s .args .number) (now (s .args .masks))
+          (s .args .unsettled) (c .before .before .before .before .before .before .before .before .before .if1 .left)
+          (c .before .before .before .before .before .before .before .before .find-data .ensures)
+          (c .before .before .before .before .before .before .old .given .0 .0)
+          (c .before .before .before .before .before .before .old .given .1) (free .ensures .0) _ _ (omega (arith, c .before .before .before .if2 .left))
+          (c .before .before .lowest-free .ensures .0)
           (c .before .mask-of .ensures) (c .list-steps .ensures .0),
       (tt, c .list-steps .ensures .1),
     )))

@@ -18,4 +18,5 @@ renewed-path-spec =
     (λ c. search needs)
     (λ c. search needs)
     (λ c. search needs)
-    (λ c. let s = c .before .before .before .before .before .before in renews (s .args .tags .now) (s .args .paths .now) (s .args .number) (s .args .old .0) (c .before .before .before .label-at .ensures .1) (c .before .before .copy .ensures) (c .before .successor .ensures)))
+    (λ c. let s = c .before .before .before .before .before .before in renews (s .args .tags .now) (s .args .paths .now) (s .args .number) (s .args .old .0)
+    (c .before .before .before .label-at .ensures .1) (c .before .before .copy .ensures) (c .before .successor .ensures)))

@@ -30,7 +30,8 @@ loop-again : tie.Need-loop-again Inv-loop μ-loop
 loop-again c = let l = c .before .before .before .before .loop in
     let s = c .before .before .before .before .before .before in (
       omega arith,
-      pages-yes (hasPage (s .args .mask)) (l .p) (c .before .before .has-page .ensures) (stepsIn (s .args .l)) (PageWrite (s .args .old) (s .args .target)) (l .inv .1) (c .before .if1 .taken)
+      pages-yes (hasPage (s .args .mask)) (l .p) (c .before .before .has-page .ensures) (stepsIn (s .args .l)) (PageWrite (s .args .old) (s .args .target))
+          (l .inv .1) (c .before .if1 .taken)
           (c .add .ensures .0),
       c .add .ensures .1,
       omega (arith, c .add .ensures .2, l .inv .3),
@@ -38,8 +39,13 @@ loop-again c = let l = c .before .before .before .before .loop in
 
 loop-again-2 : tie.Need-loop-again-2 Inv-loop μ-loop
 loop-again-2 c = let l = c .before .before .before .loop in
-    let s = c .before .before .before .before .before in
-    (omega arith, pages-no (hasPage (s .args .mask)) (l .p) (c .before .has-page .ensures) (stepsIn (s .args .l)) (PageWrite (s .args .old) (s .args .target)) (l .inv .1) (c .if1 .left), l .inv .2, omega (arith, l .inv .3))
+    let s = c .before .before .before .before .before in (
+      omega arith,
+      pages-no (hasPage (s .args .mask)) (l .p) (c .before .has-page .ensures) (stepsIn (s .args .l)) (PageWrite (s .args .old)
+          (s .args .target)) (l .inv .1) (c .if1 .left),
+      l .inv .2,
+      omega (arith, l .inv .3),
+    )
 
 returns : tie.Need-returns Inv-loop μ-loop
 returns c = let l = c .before .loop in
@@ -57,7 +63,7 @@ write-pages-spec =
     loop-holds
     (λ c. search needs)
     (λ c. search needs)
-    (λ c κs. let l = c .before .before .before .loop in (l .inv .2, omega (arith, l .inv .3)))
+    (λ c κs. let l = c .before .before .before .loop in ((l .inv .2, omega (arith, l .inv .3)), omega arith))
     (λ c. search needs)
     loop-again
     (λ c. search needs)
