@@ -1,2 +1,3 @@
 -- Laws of the mount.
+pub mod Lines
 pub mod Mounts

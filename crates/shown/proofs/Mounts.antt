@@ -6,9 +6,9 @@ use mathlib.Core.Bool.{Bool, true, false, cond}
 use mathlib.Core.Option.{Option, none, some}
 use mathlib.Core.List.{List, [], _∷_, _++_, map}
 use native.Mathlib.Omega.{arith}
-use lib.ListN.{length, take, drop, getD, length-map, length-append}
+use lib.ListN.{length, take, drop, getD, length-map, length-append, length-take}
 use native.Mathlib.Nat.{sub-zero}
-use lib.Seq.{length-take-le}
+use lib.Seq.{length-take-le, take-at}
 use Rattle.base.specs.Choice.{ifTrue}
 use Rattle.base.specs.Scan.{places}
 use Rattle.base.proofs.Tests.{zero-one}
@@ -34,7 +34,7 @@ use Rattle.runs.proofs.Slots.{gather-rows, rows-length}
 use Rattle.runs.proofs.Moves.{stand-of}
 use Rattle.runs.proofs.Laws.{gathered-runs}
 use Rattle.tree.specs.declared.Tree.{Tree}
-use Rattle.tree.specs.Tree.{live, files, Kept}
+use Rattle.tree.specs.Tree.{live, files, recordAt, Kept}
 use Rattle.log.specs.declared.insertion.Point.{Point}
 use Rattle.log.specs.Point.{point}
 use Rattle.log.specs.Cursor.{Ready}
@@ -42,7 +42,7 @@ use Rattle.log.proofs.Sizes.{Sizes, sizes}
 use Rattle.replay.specs.declared.Said.{Said}
 use Rattle.replay.specs.declared.Said.the-variants.{Whole, Refused}
 use Rattle.replay.specs.declared.Replayed.{Replayed}
-use Rattle.replay.specs.Replay.{answerBy, shape, answerOf, Held, HeldBy, WholeHeld}
+use Rattle.replay.specs.Replay.{answerBy, shape, answerOf, Held, HeldBy, WholeHeld, pathAt}
 use Rattle.used.specs.declared.Erase.{Erase}
 use Rattle.used.specs.declared.Missing.{Missing}
 use Rattle.used.specs.declared.Missing.the-variants as missing
@@ -52,9 +52,11 @@ use Rattle.used.specs.Erase.{erasable, eraseBy, eraseOf}
 use Rattle.used.proofs.Needed.{absent-is, fit-tags}
 use Rattle.used.proofs.Masks.{masks-are}
 use Rattle.used.proofs.Erasable.{erase-is, erase-taken}
+use Rattle.replay.proofs.Holds.{rising-paths}
+use Rattle.shown.proofs.Lines.{gather-within}
 use Rattle.shown.specs.declared.Shown.{Shown}
 use Rattle.shown.specs.Shown as show
-use Rattle.shown.specs.Shown.{rowsShown, treeOf, answer, Told, mounted, showing, later, placeOf, Silent}
+use Rattle.shown.specs.Shown.{rowsShown, treeOf, answer, Told, mounted, showing, later, placeOf, Lines, Silent}
 
 -- ---- the tree after the log
 
@@ -88,8 +90,17 @@ module _ (r : Replayed) (spans rows : List (List ℕ)) (w : WholeHeld r spans ro
   )
 
   module _ (out : List (List ℕ)) {out′ : List (List ℕ)} {n : ℕ} (g : (n ≡ total spans (live (r .tree))) × (out′ ≡ put out 0 (gatherRows spans rows (live (r .tree))))) where
+    taken : take (r .room .used) out′ ≡ gatherRows spans rows (live (r .tree))
+    taken =
+        let k : length (gatherRows spans rows (live (r .tree))) ≡ r .room .used = rows-length spans rows (live (r .tree)) stands ∙ sym used-total in
+        rw (g .1, take-at (gatherRows spans rows (live (r .tree))) _ (r .room .used) k)
+
     pub whole-told : Told r out′
-    whole-told = subst (λ (s : Said). show.InOrder s r out′) (sym e) (held .kept, omega (arith, used-total, total-few))
+    whole-told = subst (λ (s : Said). show.InOrder s r out′) (sym e) (
+      held .kept,
+      omega (arith, used-total, total-few),
+      subst Lines (sym taken) (gather-within (pathAt (r .tree)) spans rows (live (r .tree)) (held .owned) (rising-paths (r .tree) (held .kept))),
+    )
 
     pub whole-answer : {a : Answer meaning.Tree} → answerOf r spans rows ≡ a → answer r out′ ≡ a
     whole-answer q =
@@ -123,6 +134,12 @@ placed-back : (o : Option ℕ) → placeOf (point o) ≡ o
 unfolding point
 placed-back none = refl
 placed-back (some a) = refl
+
+-- there is a place for each file's record
+files-fit : (t : Tree) (records : List Record) → Kept t → take (t .count) records ≡ files t → t .count ≤ length records
+files-fit t records k e =
+    let a : length (live t) ≡ t .count = length-take-le (t .count) (t .slots) (omega (arith, k .few, k .slots-len)) in
+    omega (arith, ap length e, length-map (live t) (recordAt t), a, length-take (t .count) records)
 
 module _ (g : Geometry) (l : Lent) (p : Plan) (k : Ready g l p) where
   pub pages-few : g .pages ≤ 32
@@ -164,14 +181,16 @@ module _ (g : Geometry) (l : Lent) (p : Plan) (k : Ready g l p) where
     unfolding eraseOf eraseBy
     erase-few = omega (arith, places-few (length (l .tags)) (λ i. erasable (length (l .tags)) (labelsOf (l .tags) (l .paths)) p (getD masks i 0) i), tags-few)
 
-    pub whole-sizes : Kept (r .tree) → length xs ≤ 1024 → show.Sizes Whole g l whole xs
+    pub whole-sizes : Kept (r .tree) → length xs ≤ 1024 → Lines xs → show.Sizes Whole g l whole xs
     unfolding imageOf
-    whole-sizes kt few = (
+    whole-sizes kt few up = (
       kt .few,
       omega arith,
       subst (λ (x : Erase). x .count ≤ 1024) (sym ez) erase-few,
       masks-are 1024 g l (labelsOf (l .tags) (l .paths)) (map extentOf xs) (k .fit) mz ∙ ap (λ (ys : List Extent). listed 1024 (usedBits g (labelsOf (l .tags) (l .paths)) ys)) (sym all-rows),
       ez ∙ ap eraseOf (erase-is g l p (map extentOf xs) masks (k .fit) (k .plan) mz ∙ ap (eraseList g (labelsOf (l .tags) (l .paths))) (sym all-rows)),
+      subst Lines (sym (ap (λ (j : ℕ). take j xs) n ∙ take-all xs)) up,
+      files-fit (r .tree) records kt rz,
     )
 
 take-same : {A : Type 0} (n : ℕ) (xs : List A) → take n (take n xs) ≡ take n xs
@@ -183,6 +202,9 @@ take-same (suc n) (x ∷ xs) = ap (λ (ys : List _). x ∷ ys) (take-same n xs)
 same-rows : (xs rows : List (List ℕ)) (n m : ℕ) → xs ≡ take n rows → m ≡ n → rowsShown xs m ≡ rowsShown rows m
 same-rows xs rows n m e z = rw (e, z) (ap (map extentOf) (take-same n rows))
 
+same-front : (xs rows : List (List ℕ)) (n m : ℕ) → xs ≡ take n rows → m ≡ n → take m xs ≡ take m rows
+same-front xs rows n m e z = rw (e, z) (take-same n rows)
+
 -- the part of a slice up to n
 pub part-is : (rows : List (List ℕ)) (n : ℕ) → take (n - 0) (drop 0 rows) ≡ take n rows
 part-is rows n = ap (λ (k : ℕ). take k rows) (sub-zero n)
@@ -190,7 +212,7 @@ part-is rows n = ap (λ (k : ℕ). take k rows) (sub-zero n)
 pub part-length : (rows : List (List ℕ)) (n : ℕ) → n ≤ 1024 → 1024 ≤ length rows → n ≡ length (take (n - 0) (drop 0 rows))
 part-length rows n h k = sym (ap length (part-is rows n) ∙ length-take-le n rows (omega arith))
 
-pub told-few : (r : Replayed) (rows : List (List ℕ)) → Told r rows → r .said ≡ Whole → Kept (r .tree) × (r .room .used ≤ 1024)
+pub told-few : (r : Replayed) (rows : List (List ℕ)) → Told r rows → r .said ≡ Whole → Kept (r .tree) × (r .room .used ≤ 1024) × Lines (take (r .room .used) rows)
 told-few r rows t e = subst (λ (s : Said). show.InOrder s r rows) e t
 
 -- ---- after the labels
@@ -245,6 +267,8 @@ whole-sized g l s xs rows n xe ne e h = subst (λ (y : Said). show.Sizes y g l s
   h .2,
   h .3 ∙ ap (λ (ys : List Extent). listed 1024 (usedBits g (imageOf g l .labels) ys)) (same-rows xs rows n (s .extents) xe ne),
   h .4 ∙ ap (λ (ys : List Extent). eraseOf (eraseList g (imageOf g l .labels) ys)) (same-rows xs rows n (s .extents) xe ne),
+  subst Lines (same-front xs rows n (s .extents) xe ne) (h .5),
+  h .6,
 )
 
 -- ---- the labels

@@ -3,7 +3,7 @@ use Prim.Native.Nat.{ℕ, _≤_}
 use mathlib.Core.Path.{_≡_}
 use mathlib.Core.Option.{Option, none, some}
 use mathlib.Core.List.{List, map}
-use lib.ListN.{take}
+use lib.ListN.{length, take}
 use Rattle.meaning.specs.declared.Extent.{Extent}
 use Rattle.meaning.specs.declared.Geometry.{Geometry}
 use Rattle.meaning.specs.Answer.{Answer, ok, unless, andThen}
@@ -12,7 +12,7 @@ use Rattle.meaning.specs.Log.{logOf, replayed}
 use Rattle.meaning.specs.Replay as meaning
 use Rattle.meaning.specs.Replay.{replay}
 use Rattle.meaning.specs.Mount.{Mounted, absent, eraseList, shown}
-use Rattle.extent.specs.Rows.{extentOf}
+use Rattle.extent.specs.Rows.{extentOf, Within}
 use Rattle.tree.specs.Tree.{files, Kept}
 use Rattle.log.specs.declared.insertion.Point.{Point}
 use Rattle.log.specs.declared.insertion.Point.the-variants.{At, Nowhere}
@@ -36,9 +36,13 @@ treeOf r rows = record { records = files (r .tree); extents = rowsShown rows (r 
 abbrev pub answer : Replayed → List (List ℕ) → Answer meaning.Tree
 answer r rows = answerBy (r .said) (treeOf r rows)
 
+-- the rows are extents, sorted and disjoint
+abbrev pub Lines : List (List ℕ) → Type 0
+Lines rows = (top : ℕ) × Within 0 top rows
+
 -- a whole replay's tree stands in order, and there are rows for its extents
 abbrev pub InOrder : Said → Replayed → List (List ℕ) → Type 0
-InOrder Whole r rows = Kept (r .tree) × (r .room .used ≤ 1024)
+InOrder Whole r rows = Kept (r .tree) × (r .room .used ≤ 1024) × Lines (take (r .room .used) rows)
 InOrder (Refused x) r rows = Unit {0}
 
 abbrev pub Told : Replayed → List (List ℕ) → Type 0
@@ -72,12 +76,14 @@ later g l =
 abbrev pub Silent : Shown → Type 0
 Silent r = (r .files ≡ 0) × (r .extents ≡ 0) × (r .erase .count ≡ 0)
 
--- the counts are within the arrays, the used pages are those of the extents, and 0 stands past the erase list
+-- the counts are within the arrays, the used pages are those of the extents, 0 stands past the erase list, and the rows are in order
 abbrev pub Sizes : Said → Geometry → Lent → Shown → List (List ℕ) → Type 0
 Sizes Whole g l r rows =
     (r .files ≤ 256) × (r .extents ≤ 1024) × (r .erase .count ≤ 1024)
     × (r .used ≡ listed 1024 (usedBits g (imageOf g l .labels) (rowsShown rows (r .extents))))
     × (r .erase ≡ eraseOf (eraseList g (imageOf g l .labels) (rowsShown rows (r .extents))))
+    × Lines (take (r .extents) rows)
+    × (r .files ≤ length (r .records))
 Sizes (Refused x) g l r rows = Silent r
 
 abbrev pub Sized : Geometry → Lent → Shown → List (List ℕ) → Type 0

@@ -8,7 +8,7 @@ ghost use Rattle.meaning.specs.Replay.{replay as theReplay};
 ghost use Rattle.meaning.specs.Mount.{mountOf, shown as theShown};
 ghost use Rattle.plan.specs.Select.{lent};
 ghost use Rattle.log.specs.Cursor.{Ready};
-ghost use Rattle.shown.specs.Shown.{answer, later, mounted, showing, treeOf, Told, Silent, Sized, Sizes};
+ghost use Rattle.shown.specs.Shown.{answer, later, mounted, showing, treeOf, Lines, Told, Silent, Sized, Sizes};
 ghost use Rattle.replay.specs.declared.Said.the-variants.{Whole, Refused};
 ghost use Rattle.tree.specs.Tree.{Kept};
 use log::insertion::Point;
@@ -112,7 +112,7 @@ fn whole(
     r: Replayed,
     xs: &[[u32; 4]],
 ) -> Shown
-    requires { ⌜ Ready g (lent (now tags) (now paths) (now contents)) p × Kept (r .tree) × (r .room .used ≡ length (now xs)) × (length (now xs) ≤ 1024) ⌝ }
+    requires { ⌜ Ready g (lent (now tags) (now paths) (now contents)) p × Kept (r .tree) × (r .room .used ≡ length (now xs)) × (length (now xs) ≤ 1024) × Lines (now xs) ⌝ }
     ensures { λ x. ⌜ (x .said ≡ Whole) × (x .extents ≡ r .room .used) × (mounted x (now (xs .entry)) ≡ theShown g (imageOf g (lent (now (tags .entry)) (now (paths .entry)) (now (contents .entry)))) (treeOf r (now (xs .entry)))) × Sizes Whole g (lent (now (tags .entry)) (now (paths .entry)) (now (contents .entry))) x (now (xs .entry)) ⌝ }
 {
     let used = used::used_bits(g, tags, paths, xs);
