@@ -1,0 +1,2 @@
+-- Laws of the read.
+pub mod Files

@@ -1,0 +1,2 @@
+-- What a read answers.
+pub mod File
