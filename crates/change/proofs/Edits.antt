@@ -47,7 +47,7 @@ module _ {m : Message} {parent perm path mtime cvers : ℕ} {name uid gid : Plac
   unfolding stampedBy
   stamped-create f = at (λ (n : Message). stampedBy n f) e refl
 
-module _ {m : Message} {path mtime : ℕ} {muid : Place} (e : m ≡ Remove path mtime muid) where
+module _ {m : Message} {path mtime : ℕ} {muid : Place} (e : m ≡ Remove path muid mtime) where
   pub subject-remove : path ≡ subject m
   unfolding subject
   subject-remove = at subject e refl
@@ -93,7 +93,7 @@ module _ {m : Message} {path mtime cvers : ℕ} {muid : Place} (e : m ≡ Trunca
   unfolding stampedBy
   stamped-truncate f = at (λ (n : Message). stampedBy n f) e refl
 
-module _ {m : Message} {run : Extent} {mtime cvers : ℕ} {muid : Place} (e : m ≡ Write run mtime cvers muid) where
+module _ {m : Message} {run : Extent} {mtime cvers : ℕ} {muid : Place} (e : m ≡ Write run mtime muid cvers) where
   pub subject-write : run .path ≡ subject m
   unfolding subject
   subject-write = at subject e refl
@@ -118,7 +118,7 @@ module _ {m : Message} {run : Extent} {mtime cvers : ℕ} {muid : Place} (e : m 
   unfolding stampedBy
   stamped-write f = at (λ (n : Message). stampedBy n f) e refl
 
-module _ {m : Message} {path : ℕ} {name : Place} {perm : ℕ} {uid gid : Place} {mtime : ℕ} {muid : Place} (e : m ≡ Wstat path name perm uid gid mtime muid) where
+module _ {m : Message} {path : ℕ} {name : Place} {perm : ℕ} {uid gid : Place} {mtime : ℕ} {muid : Place} (e : m ≡ Wstat path name uid gid muid perm mtime) where
   pub subject-wstat : path ≡ subject m
   unfolding subject
   subject-wstat = at subject e refl

@@ -101,7 +101,7 @@ module _ {spans rows : List (List ℕ)} {ss : List ℕ} {s : ℕ} {old : Room} (
 
 -- ---- by the kind of message
 
-module _ {m : Message} {run : Extent} {mtime cvers : ℕ} {muid : Place} (e : m ≡ Write run mtime cvers muid) where
+module _ {m : Message} {run : Extent} {mtime cvers : ℕ} {muid : Place} (e : m ≡ Write run mtime muid cvers) where
   pub some-write : {spans rows : List (List ℕ)} {ss : List ℕ} {s : ℕ} → Some spans rows ss s (subject m) → Some spans rows ss s (run .path)
   unfolding subject
   some-write {spans} {rows} {ss} {s} k = subst (λ (n : Message). Some spans rows ss s (subject n)) e k
@@ -112,7 +112,7 @@ module _ {m : Message} {run : Extent} {mtime cvers : ℕ} {muid : Place} (e : m 
       record { some = b .0; file = b .1; flash = b .2 }
 
 module _ {spans rows spans′ rows′ : List (List ℕ)} {r : Room} {ss : List ℕ} {s : ℕ} (xs : List Extent) {m : Message} where
-  pub turns-write : {run : Extent} {mtime cvers : ℕ} {muid : Place} → m ≡ Write run mtime cvers muid
+  pub turns-write : {run : Extent} {mtime cvers : ℕ} {muid : Place} → m ≡ Write run mtime muid cvers
       → Turns spans rows spans′ rows′ r ss s (run .path) (lay run xs) → Turns spans rows spans′ rows′ r ss s (subject m) (extentsAfter m xs)
   unfolding subject extentsAfter
   turns-write e t = subst (λ (n : Message). Turns spans rows spans′ rows′ r ss s (subject n) (extentsAfter n xs)) (sym e) t
@@ -122,7 +122,7 @@ module _ {spans rows spans′ rows′ : List (List ℕ)} {r : Room} {ss : List �
   unfolding subject extentsAfter
   turns-truncate e t = subst (λ (n : Message). Turns spans rows spans′ rows′ r ss s (subject n) (extentsAfter n xs)) (sym e) t
 
-  pub turns-remove : {path mtime : ℕ} {muid : Place} → m ≡ Remove path mtime muid
+  pub turns-remove : {path mtime : ℕ} {muid : Place} → m ≡ Remove path muid mtime
       → Turns spans rows spans′ rows′ r ss s path (others path xs) → Turns spans rows spans′ rows′ r ss s (subject m) (extentsAfter m xs)
   unfolding subject extentsAfter
   turns-remove e t = subst (λ (n : Message). Turns spans rows spans′ rows′ r ss s (subject n) (extentsAfter n xs)) (sym e) t
@@ -132,7 +132,7 @@ module _ {m : Message} {spans rows : List (List ℕ)} {ss : List ℕ} {s : ℕ} 
   unfolding subject
   some-truncate e k = subst (λ (n : Message). Some spans rows ss s (subject n)) e k
 
-  pub some-remove : {path mtime : ℕ} {muid : Place} → m ≡ Remove path mtime muid → Some spans rows ss s (subject m) → Some spans rows ss s path
+  pub some-remove : {path mtime : ℕ} {muid : Place} → m ≡ Remove path muid mtime → Some spans rows ss s (subject m) → Some spans rows ss s path
   unfolding subject
   some-remove e k = subst (λ (n : Message). Some spans rows ss s (subject n)) e k
 
@@ -146,7 +146,7 @@ module _ {spans rows : List (List ℕ)} {ss : List ℕ} {s : ℕ} {old : Room} (
   unfolding subject extentsAfter
   turns-create {path = path} e = subst (λ (n : Message). Turns spans rows spans rows old ss s (subject n) (extentsAfter n (gather spans rows ss))) (sym e) (same-so path)
 
-  pub turns-wstat : {m : Message} {path : ℕ} {name : Place} {perm : ℕ} {uid gid : Place} {mtime : ℕ} {muid : Place} → m ≡ Wstat path name perm uid gid mtime muid
+  pub turns-wstat : {m : Message} {path : ℕ} {name : Place} {perm : ℕ} {uid gid : Place} {mtime : ℕ} {muid : Place} → m ≡ Wstat path name uid gid muid perm mtime
       → Turns spans rows spans rows old ss s (subject m) (extentsAfter m (gather spans rows ss))
   unfolding subject extentsAfter
   turns-wstat {path = path} e = subst (λ (n : Message). Turns spans rows spans rows old ss s (subject n) (extentsAfter n (gather spans rows ss))) (sym e) (same-so path)

@@ -116,59 +116,59 @@ module _ (fs : List Record) (f : Record) where
   pub ignored-there : (m : Message) → look (subject m) fs ≡ some f → editOf m f ≡ Ignored → applies (judge m fs) ≡ false
   unfolding subject editOf judge applies
   ignored-there (Create parent perm path mtime cvers name uid gid) l e = taken (look parent fs) (look path fs) f l
-  ignored-there (Remove path mtime muid) l e = ap applies (judged.removed-there fs path mtime muid f l ∙ root-stays path f _ (root-ignored path e))
+  ignored-there (Remove path muid mtime) l e = ap applies (judged.removed-there fs path mtime muid f l ∙ root-stays path f _ (root-ignored path e))
   ignored-there (Truncate path mtime cvers muid) l e = ap applies (truncated-there fs path mtime cvers muid f l) ∙ ignored-if _ e
-  ignored-there (Write run mtime cvers muid) l e = ap applies (written-there fs run mtime cvers muid f l) ∙ ignored-if _ e
-  ignored-there (Wstat path name perm uid gid mtime muid) l e = ap applies (restated-there fs path name perm uid gid mtime muid f l) ∙ ignored-if _ e
+  ignored-there (Write run mtime muid cvers) l e = ap applies (written-there fs run mtime cvers muid f l) ∙ ignored-if _ e
+  ignored-there (Wstat path name uid gid muid perm mtime) l e = ap applies (restated-there fs path name perm uid gid mtime muid f l) ∙ ignored-if _ e
 
   pub changed-there : (m : Message) → look (subject m) fs ≡ some f → editOf m f ≡ Changed → applies (judge m fs) ≡ true
   unfolding subject editOf
   changed-there (Create parent perm path mtime cvers name uid gid) l e = absurd (ignored-changed e)
-  changed-there (Remove path mtime muid) l e = absurd (root-changed path e)
+  changed-there (Remove path muid mtime) l e = absurd (root-changed path e)
   changed-there (Truncate path mtime cvers muid) l e = ap applies (truncated-there fs path mtime cvers muid f l) ∙ applied-if _ e
-  changed-there (Write run mtime cvers muid) l e = ap applies (written-there fs run mtime cvers muid f l) ∙ applied-if _ e
-  changed-there (Wstat path name perm uid gid mtime muid) l e = ap applies (restated-there fs path name perm uid gid mtime muid f l) ∙ applied-if _ e
+  changed-there (Write run mtime muid cvers) l e = ap applies (written-there fs run mtime cvers muid f l) ∙ applied-if _ e
+  changed-there (Wstat path name uid gid muid perm mtime) l e = ap applies (restated-there fs path name perm uid gid mtime muid f l) ∙ applied-if _ e
 
   pub changed-records : (m : Message) → editOf m f ≡ Changed → recordsAfter m fs ≡ alter (subject m) (revised m) fs
   unfolding subject editOf recordsAfter parentAfter ownAfter revised
   changed-records (Create parent perm path mtime cvers name uid gid) e = absurd (ignored-changed e)
-  changed-records (Remove path mtime muid) e = absurd (root-changed path e)
+  changed-records (Remove path muid mtime) e = absurd (root-changed path e)
   changed-records (Truncate path mtime cvers muid) e = refl
-  changed-records (Write run mtime cvers muid) e = refl
-  changed-records (Wstat path name perm uid gid mtime muid) e = refl
+  changed-records (Write run mtime muid cvers) e = refl
+  changed-records (Wstat path name uid gid muid perm mtime) e = refl
 
   -- a directory with entries
   pub removed-full : (m : Message) → look (subject m) fs ≡ some f → editOf m f ≡ Removed → isDir f ≡ true → isEmpty (subject m) fs ≡ false → applies (judge m fs) ≡ false
   unfolding subject editOf applies
   removed-full (Create parent perm path mtime cvers name uid gid) l e d n = absurd (ignored-removed e)
-  removed-full (Remove path mtime muid) l e d n = ap applies (judged.removed-there fs path mtime muid f l ∙ not-emptied path f _ (root-removed path e) d n)
+  removed-full (Remove path muid mtime) l e d n = ap applies (judged.removed-there fs path mtime muid f l ∙ not-emptied path f _ (root-removed path e) d n)
   removed-full (Truncate path mtime cvers muid) l e d n = absurd (never-removed _ e)
-  removed-full (Write run mtime cvers muid) l e d n = absurd (never-removed _ e)
-  removed-full (Wstat path name perm uid gid mtime muid) l e d n = absurd (never-removed _ e)
+  removed-full (Write run mtime muid cvers) l e d n = absurd (never-removed _ e)
+  removed-full (Wstat path name uid gid muid perm mtime) l e d n = absurd (never-removed _ e)
 
   pub removed-there : (m : Message) → look (subject m) fs ≡ some f → editOf m f ≡ Removed → (isDir f ≡ true → isEmpty (subject m) fs ≡ true) → applies (judge m fs) ≡ true
   unfolding subject editOf applies
   removed-there (Create parent perm path mtime cvers name uid gid) l e d = absurd (ignored-removed e)
-  removed-there (Remove path mtime muid) l e d = ap applies (judged.removed-there fs path mtime muid f l ∙ may-go path f _ (root-removed path e) d)
+  removed-there (Remove path muid mtime) l e d = ap applies (judged.removed-there fs path mtime muid f l ∙ may-go path f _ (root-removed path e) d)
   removed-there (Truncate path mtime cvers muid) l e d = absurd (never-removed _ e)
-  removed-there (Write run mtime cvers muid) l e d = absurd (never-removed _ e)
-  removed-there (Wstat path name perm uid gid mtime muid) l e d = absurd (never-removed _ e)
+  removed-there (Write run mtime muid cvers) l e d = absurd (never-removed _ e)
+  removed-there (Wstat path name uid gid muid perm mtime) l e d = absurd (never-removed _ e)
 
   pub removed-records : (m : Message) → look (subject m) fs ≡ some f → editOf m f ≡ Removed → recordsAfter m fs ≡ alter (f .parent) (stampedBy m) (delete (subject m) fs)
   unfolding subject editOf recordsAfter parentAfter ownAfter stampedBy homeOf onSome
   removed-records (Create parent perm path mtime cvers name uid gid) l e = absurd (ignored-removed e)
-  removed-records (Remove path mtime muid) l e = rw l
+  removed-records (Remove path muid mtime) l e = rw l
   removed-records (Truncate path mtime cvers muid) l e = absurd (never-removed _ e)
-  removed-records (Write run mtime cvers muid) l e = absurd (never-removed _ e)
-  removed-records (Wstat path name perm uid gid mtime muid) l e = absurd (never-removed _ e)
+  removed-records (Write run mtime muid cvers) l e = absurd (never-removed _ e)
+  removed-records (Wstat path name uid gid muid perm mtime) l e = absurd (never-removed _ e)
 
   pub removed-extents : (m : Message) (xs : List Extent) → editOf m f ≡ Removed → extentsAfter m xs ≡ others (subject m) xs
   unfolding subject editOf extentsAfter
   removed-extents (Create parent perm path mtime cvers name uid gid) xs e = absurd (ignored-removed e)
-  removed-extents (Remove path mtime muid) xs e = refl
+  removed-extents (Remove path muid mtime) xs e = refl
   removed-extents (Truncate path mtime cvers muid) xs e = absurd (never-removed _ e)
-  removed-extents (Write run mtime cvers muid) xs e = absurd (never-removed _ e)
-  removed-extents (Wstat path name perm uid gid mtime muid) xs e = absurd (never-removed _ e)
+  removed-extents (Write run mtime muid cvers) xs e = absurd (never-removed _ e)
+  removed-extents (Wstat path name uid gid muid perm mtime) xs e = absurd (never-removed _ e)
 
 -- ---- no file of its path is there
 
@@ -176,10 +176,10 @@ module _ (fs : List Record) where
   pub unborn : (m : Message) → look (subject m) fs ≡ none → newborn m ≡ Nothing → applies (judge m fs) ≡ false
   unfolding subject newborn applies
   unborn (Create parent perm path mtime cvers name uid gid) l e = absurd (zero-one (ap born e))
-  unborn (Remove path mtime muid) l e = ap applies (removed-absent fs path mtime muid l)
+  unborn (Remove path muid mtime) l e = ap applies (removed-absent fs path mtime muid l)
   unborn (Truncate path mtime cvers muid) l e = ap applies (truncated-absent fs path mtime cvers muid l)
-  unborn (Write run mtime cvers muid) l e = ap applies (written-absent fs run mtime cvers muid l)
-  unborn (Wstat path name perm uid gid mtime muid) l e = ap applies (restated-absent fs path name perm uid gid mtime muid l)
+  unborn (Write run mtime muid cvers) l e = ap applies (written-absent fs run mtime cvers muid l)
+  unborn (Wstat path name uid gid muid perm mtime) l e = ap applies (restated-absent fs path name perm uid gid mtime muid l)
 
 abbrev fileOf : Made → Record
 fileOf (File q) = q
@@ -202,70 +202,70 @@ module _ (fs : List Record) (q d : Record) where
   unfolding newborn applies created
   no-parent (Create parent perm path mtime cvers name uid gid) e l =
       ap applies (created-absent fs parent perm path mtime cvers name uid gid (ap (λ (r : Record). look (r .parent) fs) (ap fileOf e) ∙ l))
-  no-parent (Remove path mtime muid) e l = absurd (not-made q e)
+  no-parent (Remove path muid mtime) e l = absurd (not-made q e)
   no-parent (Truncate path mtime cvers muid) e l = absurd (not-made q e)
-  no-parent (Write run mtime cvers muid) e l = absurd (not-made q e)
-  no-parent (Wstat path name perm uid gid mtime muid) e l = absurd (not-made q e)
+  no-parent (Write run mtime muid cvers) e l = absurd (not-made q e)
+  no-parent (Wstat path name uid gid muid perm mtime) e l = absurd (not-made q e)
 
   pub no-directory : (m : Message) → newborn m ≡ File q → look (q .parent) fs ≡ some d → isDir d ≡ false → applies (judge m fs) ≡ false
   unfolding newborn created
   no-directory (Create parent perm path mtime cvers name uid gid) e l h =
       ap applies (created-there fs parent perm path mtime cvers name uid gid d (ap (λ (r : Record). look (r .parent) fs) (ap fileOf e) ∙ l)) ∙ not-under (isSome (look path fs)) d h
-  no-directory (Remove path mtime muid) e l h = absurd (not-made q e)
+  no-directory (Remove path muid mtime) e l h = absurd (not-made q e)
   no-directory (Truncate path mtime cvers muid) e l h = absurd (not-made q e)
-  no-directory (Write run mtime cvers muid) e l h = absurd (not-made q e)
-  no-directory (Wstat path name perm uid gid mtime muid) e l h = absurd (not-made q e)
+  no-directory (Write run mtime muid cvers) e l h = absurd (not-made q e)
+  no-directory (Wstat path name uid gid muid perm mtime) e l h = absurd (not-made q e)
 
   pub born-there : (m : Message) → newborn m ≡ File q → look (subject m) fs ≡ none → look (q .parent) fs ≡ some d → isDir d ≡ true → applies (judge m fs) ≡ true
   unfolding newborn created subject
   born-there (Create parent perm path mtime cvers name uid gid) e f l h =
       ap applies (created-there fs parent perm path mtime cvers name uid gid d (ap (λ (r : Record). look (r .parent) fs) (ap fileOf e) ∙ l)) ∙ under (look path fs) d f h
-  born-there (Remove path mtime muid) e f l h = absurd (not-made q e)
+  born-there (Remove path muid mtime) e f l h = absurd (not-made q e)
   born-there (Truncate path mtime cvers muid) e f l h = absurd (not-made q e)
-  born-there (Write run mtime cvers muid) e f l h = absurd (not-made q e)
-  born-there (Wstat path name perm uid gid mtime muid) e f l h = absurd (not-made q e)
+  born-there (Write run mtime muid cvers) e f l h = absurd (not-made q e)
+  born-there (Wstat path name uid gid muid perm mtime) e f l h = absurd (not-made q e)
 
 module _ (q : Record) where
   pub born-path : (m : Message) → newborn m ≡ File q → q .path ≡ subject m
   unfolding newborn created subject
   born-path (Create parent perm path mtime cvers name uid gid) e = ap (λ (r : Record). r .path) (sym (ap fileOf e))
-  born-path (Remove path mtime muid) e = absurd (not-made q e)
+  born-path (Remove path muid mtime) e = absurd (not-made q e)
   born-path (Truncate path mtime cvers muid) e = absurd (not-made q e)
-  born-path (Write run mtime cvers muid) e = absurd (not-made q e)
-  born-path (Wstat path name perm uid gid mtime muid) e = absurd (not-made q e)
+  born-path (Write run mtime muid cvers) e = absurd (not-made q e)
+  born-path (Wstat path name uid gid muid perm mtime) e = absurd (not-made q e)
 
   pub born-records : (m : Message) (fs : List Record) → newborn m ≡ File q → recordsAfter m fs ≡ insert q fs
   unfolding newborn recordsAfter parentAfter ownAfter
   born-records (Create parent perm path mtime cvers name uid gid) fs e = ap (λ (r : Record). insert r fs) (ap fileOf e)
-  born-records (Remove path mtime muid) fs e = absurd (not-made q e)
+  born-records (Remove path muid mtime) fs e = absurd (not-made q e)
   born-records (Truncate path mtime cvers muid) fs e = absurd (not-made q e)
-  born-records (Write run mtime cvers muid) fs e = absurd (not-made q e)
-  born-records (Wstat path name perm uid gid mtime muid) fs e = absurd (not-made q e)
+  born-records (Write run mtime muid cvers) fs e = absurd (not-made q e)
+  born-records (Wstat path name uid gid muid perm mtime) fs e = absurd (not-made q e)
 
   pub born-extents : (m : Message) (xs : List Extent) → newborn m ≡ File q → extentsAfter m xs ≡ xs
   unfolding newborn extentsAfter
   born-extents (Create parent perm path mtime cvers name uid gid) xs e = refl
-  born-extents (Remove path mtime muid) xs e = absurd (not-made q e)
+  born-extents (Remove path muid mtime) xs e = absurd (not-made q e)
   born-extents (Truncate path mtime cvers muid) xs e = absurd (not-made q e)
-  born-extents (Write run mtime cvers muid) xs e = absurd (not-made q e)
-  born-extents (Wstat path name perm uid gid mtime muid) xs e = absurd (not-made q e)
+  born-extents (Write run mtime muid cvers) xs e = absurd (not-made q e)
+  born-extents (Wstat path name uid gid muid perm mtime) xs e = absurd (not-made q e)
 
 -- a record keeps its path
 pub revised-path : (m : Message) (f : Record) → revised m f .path ≡ f .path
 unfolding revised truncated written restated stamp sized
 revised-path (Create parent perm path mtime cvers name uid gid) f = refl
-revised-path (Remove path mtime muid) f = refl
+revised-path (Remove path muid mtime) f = refl
 revised-path (Truncate path mtime cvers muid) f = refl
-revised-path (Write run mtime cvers muid) f = refl
-revised-path (Wstat path name perm uid gid mtime muid) f = refl
+revised-path (Write run mtime muid cvers) f = refl
+revised-path (Wstat path name uid gid muid perm mtime) f = refl
 
 pub stamped-path : (m : Message) (f : Record) → stampedBy m f .path ≡ f .path
 unfolding stampedBy stamp
 stamped-path (Create parent perm path mtime cvers name uid gid) f = refl
-stamped-path (Remove path mtime muid) f = refl
+stamped-path (Remove path muid mtime) f = refl
 stamped-path (Truncate path mtime cvers muid) f = refl
-stamped-path (Write run mtime cvers muid) f = refl
-stamped-path (Wstat path name perm uid gid mtime muid) f = refl
+stamped-path (Write run mtime muid cvers) f = refl
+stamped-path (Wstat path name uid gid muid perm mtime) f = refl
 
 abbrev held : Option Record → ℕ
 held (some f) = 0

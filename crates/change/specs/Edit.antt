@@ -15,10 +15,10 @@ use Rattle.change.specs.declared.edit.Made.the-variants.{File, Nothing}
 -- the path of the file that a message speaks of
 unfoldable pub subject : Message → ℕ
 subject (Create parent perm path mtime cvers name uid gid) = path
-subject (Remove path mtime muid) = path
+subject (Remove path muid mtime) = path
 subject (Truncate path mtime cvers muid) = path
-subject (Write run mtime cvers muid) = run .path
-subject (Wstat path name perm uid gid mtime muid) = path
+subject (Write run mtime muid cvers) = run .path
+subject (Wstat path name uid gid muid perm mtime) = path
 
 unfoldable pub changedIf : Bool → Edit
 changedIf b = ifTrue b Changed Ignored
@@ -26,31 +26,31 @@ changedIf b = ifTrue b Changed Ignored
 -- where the file f of that path is there; of a remove, whether f is empty is not asked yet
 unfoldable pub editOf : Message → Record → Edit
 editOf (Create parent perm path mtime cvers name uid gid) f = Ignored
-editOf (Remove path mtime muid) f = ifEq path 0 Ignored Removed
+editOf (Remove path muid mtime) f = ifEq path 0 Ignored Removed
 editOf (Truncate path mtime cvers muid) f = changedIf (applies (judgeTruncate f))
-editOf (Write run mtime cvers muid) f = changedIf (applies (judgeWrite f cvers))
-editOf (Wstat path name perm uid gid mtime muid) f = changedIf (applies (judgeWstat path f name perm))
+editOf (Write run mtime muid cvers) f = changedIf (applies (judgeWrite f cvers))
+editOf (Wstat path name uid gid muid perm mtime) f = changedIf (applies (judgeWstat path f name perm))
 
 -- the record then
 unfoldable pub revised : Message → Record → Record
 revised (Create parent perm path mtime cvers name uid gid) f = f
-revised (Remove path mtime muid) f = f
+revised (Remove path muid mtime) f = f
 revised (Truncate path mtime cvers muid) f = truncated mtime cvers muid f
-revised (Write run mtime cvers muid) f = written run mtime muid f
-revised (Wstat path name perm uid gid mtime muid) f = restated name perm uid gid mtime muid f
+revised (Write run mtime muid cvers) f = written run mtime muid f
+revised (Wstat path name uid gid muid perm mtime) f = restated name perm uid gid mtime muid f
 
 -- the record of a new file, where there is none of that path
 unfoldable pub newborn : Message → Made
 newborn (Create parent perm path mtime cvers name uid gid) = File (created parent perm path mtime cvers name uid gid)
-newborn (Remove path mtime muid) = Nothing
+newborn (Remove path muid mtime) = Nothing
 newborn (Truncate path mtime cvers muid) = Nothing
-newborn (Write run mtime cvers muid) = Nothing
-newborn (Wstat path name perm uid gid mtime muid) = Nothing
+newborn (Write run mtime muid cvers) = Nothing
+newborn (Wstat path name uid gid muid perm mtime) = Nothing
 
 -- what the parent takes of a remove
 unfoldable pub stampedBy : Message → Record → Record
 stampedBy (Create parent perm path mtime cvers name uid gid) f = f
-stampedBy (Remove path mtime muid) f = stamp mtime muid f
+stampedBy (Remove path muid mtime) f = stamp mtime muid f
 stampedBy (Truncate path mtime cvers muid) f = f
-stampedBy (Write run mtime cvers muid) f = f
-stampedBy (Wstat path name perm uid gid mtime muid) f = f
+stampedBy (Write run mtime muid cvers) f = f
+stampedBy (Wstat path name uid gid muid perm mtime) f = f

@@ -67,10 +67,10 @@ pub record Placed (g : Geometry) (l : Lent) (p : Plan) (c : Cursor) : Type 0 whe
 -- A write that parses: its run is not empty, and neither its offsets nor its addresses leave 32 bits.
 abbrev pub Ranged : Message → Type 0
 Ranged (Create parent perm path mtime cvers name uid gid) = Unit {0}
-Ranged (Remove path mtime muid) = Unit {0}
+Ranged (Remove path muid mtime) = Unit {0}
 Ranged (Truncate path mtime cvers muid) = Unit {0}
-Ranged (Write run mtime cvers muid) = (0 < run .count) × (run .offset + run .count < 2 ^ 32) × (run .address + run .count < 2 ^ 32)
-Ranged (Wstat path name perm uid gid mtime muid) = Unit {0}
+Ranged (Write run mtime muid cvers) = (0 < run .count) × (run .offset + run .count < 2 ^ 32) × (run .address + run .count < 2 ^ 32)
+Ranged (Wstat path name uid gid muid perm mtime) = Unit {0}
 
 -- a cursor to go on from, where less than before is left
 pub record Next (g : Geometry) (l : Lent) (p : Plan) (bound : ℕ) (c : Cursor) : Type 0 where

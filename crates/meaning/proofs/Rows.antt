@@ -92,7 +92,7 @@ after : List Message → Tree
 after ms = elim (told (map (λ m. record { address = 0; message = m }) ms) file) [ no r ↦ file | ok t ↦ t ]
 
 write : ℕ → ℕ → ℕ → ℕ → Message
-write offset count address cvers = Write (record { path = 7; offset = offset; count = count; address = address }) 0 cvers nothing
+write offset count address cvers = Write (record { path = 7; offset = offset; count = count; address = address }) 0 nothing cvers
 
 -- is page p of data block 0 used then? Pages of 512 bytes.
 bit : Bool → ℕ

@@ -98,7 +98,7 @@ unfoldable pub removeAt : Page → ℕ → ℕ → ℕ → Parsed
 removeAt page path p end =
     let b : List ℕ = page .bytes in
     bind (p + 4) (λ muid.
-    ifEq (past b muid) end (Found (Remove path (u32 b p) (placeAt page muid)) end) Malformed)
+    ifEq (past b muid) end (Found (Remove path (placeAt page muid) (u32 b p)) end) Malformed)
 
 -- t: mtime[4] cvers[4] muid[s]
 unfoldable pub truncateAt : Page → ℕ → ℕ → ℕ → Parsed
@@ -116,7 +116,7 @@ writeAt limit g page path p end =
     (ifEq count 0 Malformed
     (ifLess 4294967295 (offset + count) Malformed
     (wellFormed (goodData limit g count flashaddr (page .address + (flash + 4)) (end - (flash + 4)))
-    (Write (record { path = path; offset = offset; count = count; address = flashaddr }) (u32 b (p + 6)) (u32 b (p + 10)) (placeAt page muid)) end))))))))
+    (Write (record { path = path; offset = offset; count = count; address = flashaddr }) (u32 b (p + 6)) (placeAt page muid) (u32 b (p + 10))) end))))))))
 
 -- W: name[s] perm[4] uid[s] gid[s] mtime[4] muid[s]
 unfoldable pub wstatAt : Page → ℕ → ℕ → ℕ → Parsed
@@ -125,7 +125,7 @@ wstatAt page path name end =
     bind (past b name) (λ perm. bind (perm + 4) (λ uid. bind (past b uid) (λ gid. bind (past b gid) (λ mtime. bind (mtime + 4) (λ muid.
     ifEq (past b muid) end
     (wellFormed (goodName (string b name))
-    (Wstat path (placeAt page name) (u32 b perm) (placeAt page uid) (placeAt page gid) (u32 b mtime) (placeAt page muid)) end)
+    (Wstat path (placeAt page name) (placeAt page uid) (placeAt page gid) (placeAt page muid) (u32 b perm) (u32 b mtime)) end)
     Malformed)))))
 
 -- "type[1] size[2] path[4] payload", by its type; malformed: "another type"

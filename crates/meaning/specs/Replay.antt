@@ -209,17 +209,17 @@ unfoldable pub judge : Message → List Record → Verdict
 judge (Create parent perm path mtime cvers name uid gid) fs =
     onSome (look parent fs) NoParent (λ d.
     ifTrue (isDir d) (onSome (look path fs) Applied (λ f. PathTaken)) ParentNoDirectory)
-judge (Remove path mtime muid) fs =
+judge (Remove path muid mtime) fs =
     onSome (look path fs) NoFile (λ f.
     ifEq path 0 TheRoot
     (ifTrue (isDir f) (ifTrue (isEmpty path fs) Applied NotEmpty) Applied))
 judge (Truncate path mtime cvers muid) fs =
     onSome (look path fs) NoFile (λ f.
     ifTrue (isDir f) Directory Applied)
-judge (Write run mtime cvers muid) fs =
+judge (Write run mtime muid cvers) fs =
     onSome (look (run .path) fs) NoFile (λ f.
     ifTrue (isDir f) Directory (ifEq cvers (f .cvers) Applied OtherVersion))
-judge (Wstat path name perm uid gid mtime muid) fs =
+judge (Wstat path name uid gid muid perm mtime) fs =
     onSome (look path fs) NoFile (λ f.
     ifTrue (xor (isDir f) (bit31 (given perm (f .perm)))) DirectoryBit
     (ifEq path 0 (ifEq (name .len) 0 Applied RootName) Applied))
@@ -242,19 +242,19 @@ applies RootName = false
 -- the message's own record
 unfoldable pub ownAfter : Message → List Record → List Record
 ownAfter (Create parent perm path mtime cvers name uid gid) fs = insert (created parent perm path mtime cvers name uid gid) fs
-ownAfter (Remove path mtime muid) fs = delete path fs
+ownAfter (Remove path muid mtime) fs = delete path fs
 ownAfter (Truncate path mtime cvers muid) fs = alter path (truncated mtime cvers muid) fs
-ownAfter (Write run mtime cvers muid) fs = alter (run .path) (written run mtime muid) fs
-ownAfter (Wstat path name perm uid gid mtime muid) fs = alter path (restated name perm uid gid mtime muid) fs
+ownAfter (Write run mtime muid cvers) fs = alter (run .path) (written run mtime muid) fs
+ownAfter (Wstat path name uid gid muid perm mtime) fs = alter path (restated name perm uid gid mtime muid) fs
 
 -- its parent's, where fs stood before the message and gs holds its own change: "c: .. The parent's record is unchanged."
 -- "r: .. The parent takes mtime and muid."
 unfoldable pub parentAfter : Message → List Record → List Record → List Record
 parentAfter (Create parent perm path mtime cvers name uid gid) fs gs = gs
-parentAfter (Remove path mtime muid) fs gs = alter (homeOf path fs) (stamp mtime muid) gs
+parentAfter (Remove path muid mtime) fs gs = alter (homeOf path fs) (stamp mtime muid) gs
 parentAfter (Truncate path mtime cvers muid) fs gs = gs
-parentAfter (Write run mtime cvers muid) fs gs = gs
-parentAfter (Wstat path name perm uid gid mtime muid) fs gs = gs
+parentAfter (Write run mtime muid cvers) fs gs = gs
+parentAfter (Wstat path name uid gid muid perm mtime) fs gs = gs
 
 unfoldable pub recordsAfter : Message → List Record → List Record
 recordsAfter m fs = parentAfter m fs (ownAfter m fs)
@@ -262,10 +262,10 @@ recordsAfter m fs = parentAfter m fs (ownAfter m fs)
 -- "t: .. no extents." "w: .. the run is laid over older extents"
 unfoldable pub extentsAfter : Message → List Extent → List Extent
 extentsAfter (Create parent perm path mtime cvers name uid gid) xs = xs
-extentsAfter (Remove path mtime muid) xs = others path xs
+extentsAfter (Remove path muid mtime) xs = others path xs
 extentsAfter (Truncate path mtime cvers muid) xs = others path xs
-extentsAfter (Write run mtime cvers muid) xs = lay run xs
-extentsAfter (Wstat path name perm uid gid mtime muid) xs = xs
+extentsAfter (Write run mtime muid cvers) xs = lay run xs
+extentsAfter (Wstat path name uid gid muid perm mtime) xs = xs
 
 unfoldable pub changed : Message → Tree → Tree
 changed m t = record {

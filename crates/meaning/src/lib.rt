@@ -67,7 +67,8 @@ pub struct Extent {
     pub address: u32,
 }
 
-/// A message of the log.
+/// A message of the log. The fields are in such an order that every place stands at a multiple of its size: a message then stays
+/// in registers.
 pub enum Message {
     Create {
         parent: u32,
@@ -81,8 +82,8 @@ pub enum Message {
     },
     Remove {
         path: u32,
-        mtime: u32,
         muid: Place,
+        mtime: u32,
     },
     Truncate {
         path: u32,
@@ -93,17 +94,17 @@ pub enum Message {
     Write {
         run: Extent,
         mtime: u32,
-        cvers: u32,
         muid: Place,
+        cvers: u32,
     },
     Wstat {
         path: u32,
         name: Place,
-        perm: u32,
         uid: Place,
         gid: Place,
-        mtime: u32,
         muid: Place,
+        perm: u32,
+        mtime: u32,
     },
 }
 

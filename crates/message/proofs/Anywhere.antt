@@ -28,5 +28,5 @@ module _ (b : List ℕ) (a begin path p end : ℕ) where
   wstat-anywhere = refl
 
 -- a write found, field by field
-pub found-write : (run : Extent) {x y x′ y′ : ℕ} {m m′ : Place} (end : ℕ) → x ≡ x′ → y ≡ y′ → m ≡ m′ → Found (Write run x y m) end ≡ Found (Write run x′ y′ m′) end
+pub found-write : (run : Extent) {x y x′ y′ : ℕ} {m m′ : Place} (end : ℕ) → x ≡ x′ → y ≡ y′ → m ≡ m′ → Found (Write run x m y) end ≡ Found (Write run x′ m′ y′) end
 found-write run end a b c = cc

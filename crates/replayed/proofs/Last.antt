@@ -192,10 +192,10 @@ module _ (p i : ℕ) (small : i < 2 ^ 32) where
   unfolding changed extentsAfter heard
   changed-where (Create parent perm path mtime cvers name uid gid) t w a s =
       fresh path (t .records) (t .extents) (judged (Create parent perm path mtime cvers name uid gid) (t .records) a .3) s
-  changed-where (Remove path mtime muid) t w a s = others-where path (t .extents) (s .bounded)
+  changed-where (Remove path muid mtime) t w a s = others-where path (t .extents) (s .bounded)
   changed-where (Truncate path mtime cvers muid) t w a s = others-where path (t .extents) (s .bounded)
-  changed-where (Write run mtime cvers muid) t w a s = lay-where p i run (t .extents) ∙ run-heard run (whereIs (t .extents) p i) (w .1)
-  changed-where (Wstat path name perm uid gid mtime muid) t w a s = refl
+  changed-where (Write run mtime muid cvers) t w a s = lay-where p i run (t .extents) ∙ run-heard run (whereIs (t .extents) p i) (w .1)
+  changed-where (Wstat path name uid gid muid perm mtime) t w a s = refl
 
 -- "File byte i is the byte of the last write applied to it since the file's creation or last truncation, else 0."
 pub last-write : (g : Geometry) (ls : List LogBlock) (t : Tree) → replay (logOf g ls) ≡ ok t → (p i : ℕ) → i < 2 ^ 32

@@ -19,18 +19,18 @@ use Rattle.replayed.proofs.Keeps.{Each, Well, log-all}
 -- Malformed: "count 0; offset + count above 4,294,967,295"
 abbrev pub Good : Message → Type 0
 Good (Create parent perm path mtime cvers name uid gid) = Unit {0}
-Good (Remove path mtime muid) = Unit {0}
+Good (Remove path muid mtime) = Unit {0}
 Good (Truncate path mtime cvers muid) = Unit {0}
-Good (Write run mtime cvers muid) = (0 < run .count) × (run .offset + run .count < 2 ^ 32)
-Good (Wstat path name perm uid gid mtime muid) = Unit {0}
+Good (Write run mtime muid cvers) = (0 < run .count) × (run .offset + run .count < 2 ^ 32)
+Good (Wstat path name uid gid muid perm mtime) = Unit {0}
 
 -- Q of each string of a message
 abbrev pub Strings : (Place → Type 0) → Message → Type 0
 Strings Q (Create parent perm path mtime cvers name uid gid) = Q name × Q uid × Q gid
-Strings Q (Remove path mtime muid) = Q muid
+Strings Q (Remove path muid mtime) = Q muid
 Strings Q (Truncate path mtime cvers muid) = Q muid
-Strings Q (Write run mtime cvers muid) = Q muid
-Strings Q (Wstat path name perm uid gid mtime muid) = Q name × Q uid × Q gid × Q muid
+Strings Q (Write run mtime muid cvers) = Q muid
+Strings Q (Wstat path name uid gid muid perm mtime) = Q name × Q uid × Q gid × Q muid
 
 -- a string that stands whole in a page
 pub record InPage (page : Page) (p : Place) : Type 0 where

@@ -148,15 +148,15 @@ look-delete q p (h ∷ hs) ne = all-eq (λ (gs : List Record). look q gs ≡ loo
 -- Q of the record that a message makes
 abbrev pub Makes : (Record → Type 0) → Message → Type 0
 Makes Q (Create parent perm path mtime cvers name uid gid) = Q (created parent perm path mtime cvers name uid gid)
-Makes Q (Remove path mtime muid) = (f : Record) → Q f → Q (stamp mtime muid f)
+Makes Q (Remove path muid mtime) = (f : Record) → Q f → Q (stamp mtime muid f)
 Makes Q (Truncate path mtime cvers muid) = (f : Record) → Q f → Q (truncated mtime cvers muid f)
-Makes Q (Write run mtime cvers muid) = (f : Record) → Q f → Q (written run mtime muid f)
-Makes Q (Wstat path name perm uid gid mtime muid) = (f : Record) → Q f → Q (restated name perm uid gid mtime muid f)
+Makes Q (Write run mtime muid cvers) = (f : Record) → Q f → Q (written run mtime muid f)
+Makes Q (Wstat path name uid gid muid perm mtime) = (f : Record) → Q f → Q (restated name perm uid gid mtime muid f)
 
 pub records-all : (Q : Record → Type 0) (m : Message) (fs : List Record) → Makes Q m → All Q fs → All Q (recordsAfter m fs)
 unfolding recordsAfter parentAfter ownAfter
 records-all Q (Create parent perm path mtime cvers name uid gid) fs w q = insert-all Q _ fs w q
-records-all Q (Remove path mtime muid) fs w q = alter-every (homeOf path fs) (stamp mtime muid) Q w (delete path fs) (delete-all Q path fs q)
+records-all Q (Remove path muid mtime) fs w q = alter-every (homeOf path fs) (stamp mtime muid) Q w (delete path fs) (delete-all Q path fs q)
 records-all Q (Truncate path mtime cvers muid) fs w q = alter-every path (truncated mtime cvers muid) Q w fs q
-records-all Q (Write run mtime cvers muid) fs w q = alter-every (run .path) (written run mtime muid) Q w fs q
-records-all Q (Wstat path name perm uid gid mtime muid) fs w q = alter-every path (restated name perm uid gid mtime muid) Q w fs q
+records-all Q (Write run mtime muid cvers) fs w q = alter-every (run .path) (written run mtime muid) Q w fs q
+records-all Q (Wstat path name uid gid muid perm mtime) fs w q = alter-every path (restated name perm uid gid mtime muid) Q w fs q

@@ -184,8 +184,8 @@ unfolding changed recordsAfter parentAfter ownAfter extentsAfter created truncat
 changed-shape (Create parent perm path mtime cvers name uid gid) t w a s =
     let j = judged (Create parent perm path mtime cvers name uid gid) (t .records) a in
     insert-shape (t .records) _ (j .3) (t .extents) (→test isDir (look parent (t .records)) (j .0) (j .1) (j .2)) s
-changed-shape (Remove path mtime muid) t w a s =
-    let j = judged (Remove path mtime muid) (t .records) a in
+changed-shape (Remove path muid mtime) t w a s =
+    let j = judged (Remove path muid mtime) (t .records) a in
     let xs : List Extent = others path (t .extents) in
     kept-shape (homeOf path (t .records)) (stamp mtime muid) (λ f. refl) (λ f. refl) (λ f. refl) (delete path (t .records)) xs
     (delete-shape (t .records) path (j .0) (j .1) (j .2) (j .3) xs
@@ -194,13 +194,13 @@ changed-shape (Remove path mtime muid) t w a s =
 changed-shape (Truncate path mtime cvers muid) t w a s =
     kept-shape path (truncated mtime cvers muid) (λ f. refl) (λ f. refl) (λ f. refl) (t .records) (others path (t .extents))
     (others-shape path (t .records) (t .extents) s)
-changed-shape (Write run mtime cvers muid) t w a s =
-    let j = judged (Write run mtime cvers muid) (t .records) a in
+changed-shape (Write run mtime muid cvers) t w a s =
+    let j = judged (Write run mtime muid cvers) (t .records) a in
     kept-shape (run .path) (written run mtime muid) (λ f. refl) (λ f. refl) (λ f. refl) (t .records) (lay run (t .extents))
     (lay-shape run (t .records) (t .extents) (w .0) (w .1)
     (→test (λ f. not (isDir f)) (look (run .path) (t .records)) (j .0) (j .1) (→T-not (isDir (j .0)) (j .2))) s)
-changed-shape (Wstat path name perm uid gid mtime muid) t w a s =
-    let j = judged (Wstat path name perm uid gid mtime muid) (t .records) a in
+changed-shape (Wstat path name uid gid muid perm mtime) t w a s =
+    let j = judged (Wstat path name uid gid muid perm mtime) (t .records) a in
     alter-shape path (restated name perm uid gid mtime muid) (λ f. refl) (λ f. refl) (t .records) (t .extents)
     (subst (On (λ (f : Record). isDir (restated name perm uid gid mtime muid f) ≡ isDir f)) (sym (j .1)) (j .2)) s
 
@@ -229,10 +229,10 @@ Short f = f .length < 2 ^ 32
 length-made : (m : Message) → Good m → Makes Short m
 unfolding created truncated written restated stamp sized
 length-made (Create parent perm path mtime cvers name uid gid) w = omega arith
-length-made (Remove path mtime muid) w = λ f h. h
+length-made (Remove path muid mtime) w = λ f h. h
 length-made (Truncate path mtime cvers muid) w = λ f h. omega arith
-length-made (Write run mtime cvers muid) w = λ f h. omega arith
-length-made (Wstat path name perm uid gid mtime muid) w = λ f h. h
+length-made (Write run mtime muid cvers) w = λ f h. omega arith
+length-made (Wstat path name uid gid muid perm mtime) w = λ f h. h
 
 pub replay-lengths : (g : Geometry) (ls : List LogBlock) (t : Tree) → replay (logOf g ls) ≡ ok t → All Short (t .records)
 unfolding bare root changed

@@ -58,10 +58,10 @@ module _ (Q : Place → Type 0) where
   four-made : (m : Message) → Strings Q m → Makes (Four Q) m
   unfolding created truncated written restated stamp sized
   four-made (Create parent perm path mtime cvers name uid gid) w = (w .0, w .1, w .2, w .1)
-  four-made (Remove path mtime muid) w = λ f q. (q .0, q .1, q .2, w)
+  four-made (Remove path muid mtime) w = λ f q. (q .0, q .1, q .2, w)
   four-made (Truncate path mtime cvers muid) w = λ f q. (q .0, q .1, q .2, w)
-  four-made (Write run mtime cvers muid) w = λ f q. (q .0, q .1, q .2, w)
-  four-made (Wstat path name perm uid gid mtime muid) w = λ f q. (
+  four-made (Write run mtime muid cvers) w = λ f q. (q .0, q .1, q .2, w)
+  four-made (Wstat path name uid gid muid perm mtime) w = λ f q. (
     given-text name (f .name) (w .0) (q .0),
     given-text uid (f .uid) (w .1) (q .1),
     given-text gid (f .gid) (w .2) (q .2),
@@ -70,10 +70,10 @@ module _ (Q : Place → Type 0) where
 
 strings-map : (P Q : Place → Type 0) (m : Message) → ((p : Place) → P p → Q p) → Strings P m → Strings Q m
 strings-map P Q (Create parent perm path mtime cvers name uid gid) f s = (f name (s .0), f uid (s .1), f gid (s .2))
-strings-map P Q (Remove path mtime muid) f s = f muid s
+strings-map P Q (Remove path muid mtime) f s = f muid s
 strings-map P Q (Truncate path mtime cvers muid) f s = f muid s
-strings-map P Q (Write run mtime cvers muid) f s = f muid s
-strings-map P Q (Wstat path name perm uid gid mtime muid) f s = (f name (s .0), f uid (s .1), f gid (s .2), f muid (s .3))
+strings-map P Q (Write run mtime muid cvers) f s = f muid s
+strings-map P Q (Wstat path name uid gid muid perm mtime) f s = (f name (s .0), f uid (s .1), f gid (s .2), f muid (s .3))
 
 stands-at : (g : Geometry) (ls : List LogBlock) (l : LogBlock) → In l ls → (j : ℕ) → j < g .pages → (k : ℕ)
     → past (logPage g l j .bytes) k ≤ length (logPage g l j .bytes) → Stands g ls (placeAt (logPage g l j) k)

@@ -27,10 +27,10 @@ holds run p i = eqb (run .path) p && leb (run .offset) i && ltb i (run .offset +
 -- the address of byte i of file p after one more applied message, where o was it before
 unfoldable pub heard : ℕ → ℕ → Message → Option ℕ → Option ℕ
 heard p i (Create parent perm path mtime cvers name uid gid) o = ifEq path p none o
-heard p i (Remove path mtime muid) o = ifEq path p none o
+heard p i (Remove path muid mtime) o = ifEq path p none o
 heard p i (Truncate path mtime cvers muid) o = ifEq path p none o
-heard p i (Write run mtime cvers muid) o = ifTrue (holds run p i) (some (run .address + (i - run .offset))) o
-heard p i (Wstat path name perm uid gid mtime muid) o = o
+heard p i (Write run mtime muid cvers) o = ifTrue (holds run p i) (some (run .address + (i - run .offset))) o
+heard p i (Wstat path name uid gid muid perm mtime) o = o
 
 unfoldable pub lastWrite : ℕ → ℕ → List Message → Option ℕ → Option ℕ
 lastWrite p i [] o = o

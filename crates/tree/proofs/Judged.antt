@@ -49,11 +49,11 @@ module _ (fs : List Record) where
     created-absent e = on-absent _ _ _ e
 
   module _ (path mtime : ℕ) (muid : Place) where
-    pub removed-there : (f : Record) → look path fs ≡ some f → judge (Remove path mtime muid) fs ≡ judgeRemove path f (isEmpty path fs)
+    pub removed-there : (f : Record) → look path fs ≡ some f → judge (Remove path muid mtime) fs ≡ judgeRemove path f (isEmpty path fs)
     unfolding judge judgeRemove
     removed-there f e = on-there _ f _ _ e
 
-    pub removed-absent : look path fs ≡ none → judge (Remove path mtime muid) fs ≡ NoFile
+    pub removed-absent : look path fs ≡ none → judge (Remove path muid mtime) fs ≡ NoFile
     unfolding judge
     removed-absent e = on-absent _ _ _ e
 
@@ -67,19 +67,19 @@ module _ (fs : List Record) where
     truncated-absent e = on-absent _ _ _ e
 
   module _ (run : Extent) (mtime cvers : ℕ) (muid : Place) where
-    pub written-there : (f : Record) → look (run .path) fs ≡ some f → judge (Write run mtime cvers muid) fs ≡ judgeWrite f cvers
+    pub written-there : (f : Record) → look (run .path) fs ≡ some f → judge (Write run mtime muid cvers) fs ≡ judgeWrite f cvers
     unfolding judge judgeWrite
     written-there f e = on-there _ f _ _ e
 
-    pub written-absent : look (run .path) fs ≡ none → judge (Write run mtime cvers muid) fs ≡ NoFile
+    pub written-absent : look (run .path) fs ≡ none → judge (Write run mtime muid cvers) fs ≡ NoFile
     unfolding judge
     written-absent e = on-absent _ _ _ e
 
   module _ (path : ℕ) (name : Place) (perm : ℕ) (uid gid : Place) (mtime : ℕ) (muid : Place) where
-    pub restated-there : (f : Record) → look path fs ≡ some f → judge (Wstat path name perm uid gid mtime muid) fs ≡ judgeWstat path f name perm
+    pub restated-there : (f : Record) → look path fs ≡ some f → judge (Wstat path name uid gid muid perm mtime) fs ≡ judgeWstat path f name perm
     unfolding judge judgeWstat
     restated-there f e = on-there _ f _ _ e
 
-    pub restated-absent : look path fs ≡ none → judge (Wstat path name perm uid gid mtime muid) fs ≡ NoFile
+    pub restated-absent : look path fs ≡ none → judge (Wstat path name uid gid muid perm mtime) fs ≡ NoFile
     unfolding judge
     restated-absent e = on-absent _ _ _ e
