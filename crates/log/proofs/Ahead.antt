@@ -29,9 +29,11 @@ use Rattle.replayed.proofs.Keeps.{Well, onParsed}
 use Rattle.replayed.proofs.Parses.{Sound, parse-sound}
 use Rattle.replayed.proofs.Fuel.{enough}
 use Rattle.log.specs.declared.Cursor.{Cursor}
+use Rattle.log.specs.declared.Opening.{Opening}
+use Rattle.log.specs.declared.Start.{Start}
 use Rattle.log.specs.declared.Turn.{Turn}
-use Rattle.log.specs.declared.Turn.the-variants.{End, On}
-use Rattle.log.specs.Turn.{begun, blockAt, inPage, nextPage, onBlock, pageAt, said, spoken, turnOf}
+use Rattle.log.specs.declared.Turn.the-variants.{On}
+use Rattle.log.specs.Turn.{begun, blockAt, fresh, inPage, nextPage, onBlock, onto, opened, pageAt, said, spoken, turnOf}
 use Rattle.log.specs.Cursor.{Next, Placed, Ranged, Ready, Says, ahead, aheadIn, inside, left, numberAt, whole}
 use Rattle.log.proofs.Joins.{join-empty, join-stopped, join-entry, join-assoc}
 use Rattle.log.proofs.Sizes.{Sizes, sizes, block-size-low, address-low}
@@ -124,6 +126,9 @@ module _ (g : Geometry) (l : Lent) (s : Sizes g l) where
   abbrev Is : ℕ → Log → Turn → Type 0
   Is = Says g l plan
 
+  abbrev Onto : ℕ → Log → Start → Type 0
+  Onto bound log x = Is bound log (onto x)
+
   ahead-start : (c : Cursor) → c .k < total → c .at ≡ 0
       → ahead g l c ≡ join (pagesFrom (g .pages - c .page) g (blockOf g m (c .k)) (c .page) (c .gap)) (after (c .k + 1))
   unfolding ahead aheadIn
@@ -150,7 +155,7 @@ module _ (g : Geometry) (l : Lent) (s : Sizes g l) where
       )
 
   onto-says : (k n bound : ℕ) → k < total → n ≡ numberAt plan k → (total - k) * 262144 + g .pages * 4096 + g .size < bound
-      → Is bound (after k) (onBlock g l plan k n)
+      → Onto bound (after k) (onBlock g l plan k n)
   unfolding onBlock imageOf findLog isSome
   onto-says k n bound h e b =
       let v = view (length (l .tags)) (labelsOf (l .tags) (l .paths)) means.Log in
@@ -159,7 +164,7 @@ module _ (g : Geometry) (l : Lent) (s : Sizes g l) where
       ap (λ (x : ℕ). find x (view x (labelsOf (l .tags) (l .paths)) means.Log) r) (s .tags) in
       let there : T (isSome (findLog (g .blocks) (m .labels) n)) =
       subst (λ (x : ℕ). T (isSome (findLog (g .blocks) (m .labels) x))) (sym e) (block-stands (g .blocks) (m .labels) k h .0) in
-      all-some (Is bound (after k)) (find (length (l .tags)) v r) _ _
+      all-some (Onto bound (after k)) (find (length (l .tags)) v r) _ _
       (λ f. absurd (subst (λ (o : Option ℕ). T (isSome o)) (sym same ∙ f) there))
       (λ i f. on-says k n i bound h e (sym same ∙ f) b)
 
@@ -176,12 +181,12 @@ module _ (g : Geometry) (l : Lent) (s : Sizes g l) where
   ended k h = ap (logOf g) (drop-end g m k h)
 
   -- block k, or the end
-  block-says : (k bound : ℕ) → (total - k) * 262144 + g .pages * 4096 + g .size < bound → Is bound (after k) (blockAt g l plan k)
+  block-says : (k bound : ℕ) → (total - k) * 262144 + g .pages * 4096 + g .size < bound → Onto bound (after k) (blockAt g l plan k)
   unfolding blockAt
   block-says k bound b =
-      all-less (Is bound (after k)) k (plan .swept) _ _
+      all-less (Onto bound (after k)) k (plan .swept) _ _
       (λ (u : k < plan .swept). onto-says k k bound (omega arith) (swept-number k u) b)
-      (λ (u : plan .swept ≤ k). all-less (Is bound (after k)) (k - plan .swept) (plan .active) _ _
+      (λ (u : plan .swept ≤ k). all-less (Onto bound (after k)) (k - plan .swept) (plan .active) _ _
       (λ (v : k - plan .swept < plan .active). onto-says k (plan .start .0 + (k - plan .swept)) bound (omega arith) (active-number k u) b)
       (λ (v : plan .active ≤ k - plan .swept). ended k (omega arith)))
 
@@ -271,13 +276,13 @@ module _ (g : Geometry) (l : Lent) (s : Sizes g l) where
         )
 
     -- a page that has not been looked at
-    begun-says : c .at ≡ 0 → Is (left g plan c) (join (pagesFrom (g .pages - c .page) g b (c .page) (c .gap)) (after (c .k + 1))) (begun g plan page c)
-    unfolding begun pageLog inside logBlock
+    begun-says : c .at ≡ 0 → Is (left g plan c) (join (pagesFrom (g .pages - c .page) g b (c .page) (c .gap)) (after (c .k + 1))) (begun g page c (fresh plan (page .bytes) c))
+    unfolding fresh pageLog inside logBlock
     begun-says z =
         let n : ℕ = g .pages - (c .page + 1) in
         let e : g .pages - c .page ≡ suc n = omega arith in
         let here : Log = join (pagesFrom (g .pages - c .page) g b (c .page) (c .gap)) (after (c .k + 1)) in
-        let K : Turn → Type 0 = Is (left g plan c) here in
+        let K : Opening → Type 0 = λ x. Is (left g plan c) here (begun g page c x) in
         let step : (x : Log) → pagesFrom (suc n) g b (c .page) (c .gap) ≡ x → here ≡ join x (after (c .k + 1)) =
         λ x f. ap (λ (y : Log). join y (after (c .k + 1))) (ap (λ (j : ℕ). pagesFrom j g b (c .page) (c .gap)) e ∙ f) in
         let stop : (f : pagesFrom (suc n) g b (c .page) (c .gap) ≡ stopped (refused.Page (address (page .address)))) → here ≡ stopped (refused.Page (address (page .address))) =
@@ -297,28 +302,30 @@ module _ (g : Geometry) (l : Lent) (s : Sizes g l) where
         spoken-says))
 
   -- past the last page of a block
-  over : (c : Cursor) → Placed g l plan c → c .page ≡ g .pages → Is (left g plan c) (ahead g l c) (blockAt g l plan (c .k + 1))
+  over : (c : Cursor) → Placed g l plan c → c .page ≡ g .pages → Onto (left g plan c) (ahead g l c) (blockAt g l plan (c .k + 1))
   unfolding pagesFrom left
   over c q e =
       let z : c .at ≡ 0 = ⊎-elim (λ (u : 0 < c .at). absurd (omega (arith, q .within u))) (λ (u : c .at ≤ 0). omega arith) (lt-or 0 (c .at)) in
       let n : g .pages - c .page ≡ 0 = omega arith in
-      subst (λ (y : Log). Is (left g plan c) y (blockAt g l plan (c .k + 1)))
+      subst (λ (y : Log). Onto (left g plan c) y (blockAt g l plan (c .k + 1)))
       (sym (ahead-start c (q .block) z ∙ ap (λ (j : ℕ). join (pagesFrom j g (blockOf g m (c .k)) (c .page) (c .gap)) (after (c .k + 1))) n ∙ join-empty (after (c .k + 1))))
       (block-says (c .k + 1) (left g plan c) (omega (arith, s .pages, s .size, q .block)))
 
   -- every turn
   turn-says : (c : Cursor) → Placed g l plan c → Is (left g plan c) (ahead g l c) (turnOf g l plan c)
-  unfolding turnOf
+  unfolding turnOf opened
   turn-says c q =
       let K : Turn → Type 0 = Is (left g plan c) (ahead g l c) in
       all-eq K (c .page) (g .pages) _ _ (λ e. over c q e)
       (λ (f : c .page ≡ g .pages → ⊥).
       let h : c .page < g .pages = omega (arith, q .page) in
-      all-eq K (c .at) 0 _ _
-      (λ z. subst (λ (x : Page). K (begun g plan x c)) (sym (page-is g l s c q h))
-      (subst (λ (y : Log). Is (left g plan c) y (begun g plan (logPage g (blockOf g m (c .k)) (c .page)) c)) (sym (ahead-start c (q .block) z)) (begun-says c q h z)))
-      (λ z. subst (λ (x : Page). K (spoken g x c)) (sym (page-is g l s c q h))
-      (subst (λ (y : Log). Is (left g plan c) y (spoken g (logPage g (blockOf g m (c .k)) (c .page)) c)) (sym (ahead-in c (q .block) z)) (spoken-says c q h))))
+      let page : Page = logPage g (blockOf g m (c .k)) (c .page) in
+      subst (λ (x : Page). K (begun g x c (opened plan (x .bytes) c))) (sym (page-is g l s c q h))
+      (all-less (λ (x : Opening). K (begun g page c x)) 0 (c .at) _ _
+      (λ (z : 0 < c .at). subst (λ (y : Log). Is (left g plan c) y (spoken g page c)) (sym (ahead-in c (q .block) (λ e. omega arith))) (spoken-says c q h))
+      (λ (z : c .at ≤ 0).
+      let e : c .at ≡ 0 = omega arith in
+      subst (λ (y : Log). Is (left g plan c) y (begun g page c (fresh plan (page .bytes) c))) (sym (ahead-start c (q .block) e)) (begun-says c q h e))))
 
 pub plan-is : (g : Geometry) (l : Lent) (p : Plan) → Ready g l p → p ≡ logPlan (g .blocks) (imageOf g l .labels)
 unfolding imageOf
@@ -330,9 +337,9 @@ next-says g l p r c = subst (λ (x : Plan). Placed g l x c → Says g l x (left 
     (turn-says g l (sizes g l (r .fit)) c)
 
 -- what `first` answers
-pub first-says : (g : Geometry) (l : Lent) (p : Plan) → Ready g l p → Says g l p (whole p) (logOf g (replayed g (imageOf g l))) (blockAt g l p 0)
+pub first-says : (g : Geometry) (l : Lent) (p : Plan) → Ready g l p → Says g l p (whole p) (logOf g (replayed g (imageOf g l))) (onto (blockAt g l p 0))
 unfolding whole
 first-says g l p r =
     let s = sizes g l (r .fit) in
-    subst (λ (x : Plan). Says g l x (whole x) (logOf g (replayed g (imageOf g l))) (blockAt g l x 0)) (sym (plan-is g l p r))
+    subst (λ (x : Plan). Says g l x (whole x) (logOf g (replayed g (imageOf g l))) (onto (blockAt g l x 0))) (sym (plan-is g l p r))
     (block-says g l s 0 _ (omega (arith, s .pages, s .size)))

@@ -29,9 +29,12 @@ use Rattle.label.specs.declared.Found.the-variants.{At, Nothing}
 use Rattle.label.proofs.Answered.{at-below, at-some, nothing-none}
 use Rattle.message.specs.Page.{Ranged, page as thePage}
 use Rattle.log.specs.declared.Cursor.{Cursor}
+use Rattle.log.specs.declared.Opening.{Opening}
+use Rattle.log.specs.declared.Start.{Start}
+use Rattle.log.specs.declared.Start.the-variants as starts
 use Rattle.log.specs.declared.Turn.{Turn}
-use Rattle.log.specs.declared.Turn.the-variants.{End, Refused, On, Told}
-use Rattle.log.specs.Turn.{begun, blockAt, inPage, lastAt, nextPage, onBlock, pageAt, said, spoken, turnOf}
+use Rattle.log.specs.declared.Turn.the-variants.{Refused, On, Told}
+use Rattle.log.specs.Turn.{begun, blockAt, inPage, lastAt, nextPage, onBlock, onto, opened, pageAt, said, spoken, turnOf}
 use Rattle.log.specs.Cursor.{Placed, Ready, Says, ahead, left, whole}
 use Rattle.log.proofs.Sizes.{Sizes, sizes, address-low, block-size-high, block-size-low, contents-low}
 use Rattle.log.proofs.Planned.{active-most, start-below, swept-most}
@@ -54,9 +57,9 @@ module _ {x : Parsed} {limit : ℕ} (g : Geometry) (page : Page) (c : Cursor) (e
   end-is h k = ap {B = Turn} On k ∙ sym (ap (said page c) h) ∙ says
 
   pub found-is : {d : Cursor} {m : Message} {next here : ℕ} → here ≡ page .address + c .at → x ≡ parsed.Found m next → d ≡ inPage c next
-      → Told m (address here) d ≡ spoken g page c
+      → Told d m (address here) ≡ spoken g page c
   unfolding said
-  found-is {d} {m} a h k = ap₂ {C = Turn} (λ (n : ℕ) (y : Cursor). Told m (address n) y) a k ∙ sym (ap (said page c) h) ∙ says
+  found-is {d} {m} a h k = ap₂ {C = Turn} (λ (n : ℕ) (y : Cursor). Told y m (address n)) a k ∙ sym (ap (said page c) h) ∙ says
 
 -- the part of a slice from a to a + n has n elements
 pub part-is : (a n : ℕ) → a + n - a ≡ n
@@ -105,9 +108,9 @@ module _ (g : Geometry) (l : Lent) (p : Plan) (r : Ready g l p) where
 
   module _ {x : Found} (k n : ℕ)
       (e : x ≡ found (find (length (l .tags)) (view (length (l .tags)) labels means.Log) (logR n (generationAt p n)))) where
-    pub nothing-is : x ≡ Nothing → End ≡ onBlock g l p k n
+    pub nothing-is : x ≡ Nothing → starts.Nowhere ≡ onBlock g l p k n
     unfolding onBlock onSome
-    nothing-is h = sym (ap (λ (o : Option ℕ). onSome o End (λ i. On (record { k = k; number = number n; begin = begins g i; page = 0; at = 0; gap = false }))) (nothing-none _ e h))
+    nothing-is h = sym (ap (λ (o : Option ℕ). onSome o starts.Nowhere (λ i. starts.At (record { k = k; number = number n; begin = begins g i; page = 0; at = 0; gap = false }))) (nothing-none _ e h))
 
     module _ {b : Block} {size : ℕ} (h : x ≡ At b) (z : size ≡ blockSize g) where
       pub begin-low : b .0 * size ≤ 67108864
@@ -119,14 +122,14 @@ module _ (g : Geometry) (l : Lent) (p : Plan) (r : Ready g l p) where
           let q : b .0 * size ≤ 1024 * 65536 = mul-le-mul i′ z′ in
           omega arith
 
-      pub at-is : On (record { k = k; number = number n; begin = b .0 * size; page = 0; at = 0; gap = false }) ≡ onBlock g l p k n
+      pub at-is : starts.At (record { k = k; number = number n; begin = b .0 * size; page = 0; at = 0; gap = false }) ≡ onBlock g l p k n
       unfolding onBlock onSome begins
       at-is =
-          ap {B = Turn} (λ (y : ℕ). On (record { k = k; number = number n; begin = b .0 * y; page = 0; at = 0; gap = false })) z
-          ∙ sym (ap (λ (o : Option ℕ). onSome o End (λ i. On (record { k = k; number = number n; begin = begins g i; page = 0; at = 0; gap = false }))) (at-some _ e h))
+          ap {B = Start} (λ (y : ℕ). starts.At (record { k = k; number = number n; begin = b .0 * y; page = 0; at = 0; gap = false })) z
+          ∙ sym (ap (λ (o : Option ℕ). onSome o starts.Nowhere (λ i. starts.At (record { k = k; number = number n; begin = begins g i; page = 0; at = 0; gap = false }))) (at-some _ e h))
 
-  pub first-is : {t : Turn} → t ≡ blockAt g l p 0 → (t ≡ blockAt g l p 0) × Says g l p (whole p) (logOf g (replayed g (imageOf g l))) t
-  first-is e = (e, subst (Says g l p (whole p) (logOf g (replayed g (imageOf g l)))) (sym e) (first-says g l p r))
+  pub first-is : {x : Start} → x ≡ blockAt g l p 0 → (x ≡ blockAt g l p 0) × Says g l p (whole p) (logOf g (replayed g (imageOf g l))) (onto x)
+  first-is e = (e, subst (λ (x : Start). Says g l p (whole p) (logOf g (replayed g (imageOf g l))) (onto x)) (sym e) (first-says g l p r))
 
   -- ---- turns
 
@@ -134,9 +137,10 @@ module _ (g : Geometry) (l : Lent) (p : Plan) (r : Ready g l p) where
     answer : {t : Turn} → t ≡ turnOf g l p c → (t ≡ turnOf g l p c) × Says g l p (left g p c) (ahead g l c) t
     answer e = (e, subst (Says g l p (left g p c) (ahead g l c)) (sym e) (next-says g l p r c q))
 
-    pub over-is : {t : Turn} → c .page ≡ g .pages → t ≡ blockAt g l p (c .k + 1) → (t ≡ turnOf g l p c) × Says g l p (left g p c) (ahead g l c) t
+    pub over-is : {x y : Start} → c .page ≡ g .pages → x ≡ blockAt g l p (c .k + 1) → x ≡ y
+        → (onto y ≡ turnOf g l p c) × Says g l p (left g p c) (ahead g l c) (onto y)
     unfolding turnOf
-    over-is h e = answer (e ∙ sym (eq-yes (c .page) (g .pages) _ _ h))
+    over-is h e f = answer (ap onto (sym f ∙ e) ∙ sym (eq-yes (c .page) (g .pages) _ _ h))
 
     pub block-low : c .k < 2048
     block-low = omega (arith, q .block, swept-low, active-low)
@@ -177,16 +181,10 @@ module _ (g : Geometry) (l : Lent) (p : Plan) (r : Ready g l p) where
         unfolding pageAt
         page-same = ap₂ {C = Page} (λ (x y : ℕ). thePage (take x (drop (c .begin + c .page * g .size) (l .contents))) y (c .begin + c .page * g .size)) en address-is
 
-        pub begun-is : {t : Turn} → c .at ≡ 0
-            → t ≡ begun g p (thePage (take n (drop (c .begin + c .page * g .size) (l .contents))) a (c .begin + c .page * g .size)) c
+        pub begun-is : {x y : Opening} {t : Turn} → x ≡ opened p (take n (drop (c .begin + c .page * g .size) (l .contents))) c → x ≡ y
+            → t ≡ begun g (thePage (take n (drop (c .begin + c .page * g .size) (l .contents))) a (c .begin + c .page * g .size)) c y
             → (t ≡ turnOf g l p c) × Says g l p (left g p c) (ahead g l c) t
         unfolding turnOf
-        begun-is z e =
-            answer (e ∙ ap (λ (x : Page). begun g p x c) page-same ∙ sym (eq-no (c .page) (g .pages) _ _ h ∙ eq-yes (c .at) 0 _ _ z))
-
-        pub spoken-is : {t : Turn} → (c .at ≡ 0 → ⊥)
-            → t ≡ spoken g (thePage (take n (drop (c .begin + c .page * g .size) (l .contents))) a (c .begin + c .page * g .size)) c
-            → (t ≡ turnOf g l p c) × Says g l p (left g p c) (ahead g l c) t
-        unfolding turnOf
-        spoken-is z e =
-            answer (e ∙ ap (λ (x : Page). spoken g x c) page-same ∙ sym (eq-no (c .page) (g .pages) _ _ h ∙ eq-no (c .at) 0 _ _ z))
+        begun-is o f e =
+            let page : Page = thePage (take n (drop (c .begin + c .page * g .size) (l .contents))) a (c .begin + c .page * g .size) in
+            answer (e ∙ ap (begun g page c) (sym f ∙ o) ∙ ap (λ (x : Page). begun g x c (opened p (x .bytes) c)) page-same ∙ sym (eq-no (c .page) (g .pages) _ _ h))

@@ -82,4 +82,4 @@ abbrev pub Says : Geometry → Lent → Plan → ℕ → Log → Turn → Type 0
 Says g l p bound log End = log ≡ empty
 Says g l p bound log (Refused r) = log ≡ stopped r
 Says g l p bound log (On c) = (log ≡ ahead g l c) × Next g l p bound c
-Says g l p bound log (Told m a c) = (log ≡ entry (a .0) m (ahead g l c)) × Next g l p bound c × Ranged m
+Says g l p bound log (Told c m a) = (log ≡ entry (a .0) m (ahead g l c)) × Next g l p bound c × Ranged m

@@ -1,4 +1,4 @@
--- What one turn answers: the next block, a page that is begun, or the message at a position.
+-- What one turn answers: the next block, what a page that is begun is, or the message at a position.
 use Prim.Native.Nat.{ℕ, _+_, _-_, _*_}
 use mathlib.Core.Bool.{Bool, true, false}
 use mathlib.Core.List.{List}
@@ -17,6 +17,10 @@ use Rattle.meaning.specs.Labels.{find, generationAt, view}
 use Rattle.meaning.specs.Message.{Page, parse}
 use Rattle.meaning.specs.Log.{embeddedLimit}
 use Rattle.log.specs.declared.Cursor.{Cursor}
+use Rattle.log.specs.declared.Opening.{Opening}
+use Rattle.log.specs.declared.Opening.the-variants as opening
+use Rattle.log.specs.declared.Start.{Start}
+use Rattle.log.specs.declared.Start.the-variants.{At, Nowhere}
 use Rattle.log.specs.declared.Turn.{Turn}
 use Rattle.log.specs.declared.Turn.the-variants.{End, Refused, On, Told}
 
@@ -37,15 +41,20 @@ lastAt p k = ifLess k (p .swept) (eqb (k + 1) (p .swept)) (ifLess (k - p .swept)
 -- ---- blocks
 
 -- the first page of block k, whose number is n
-unfoldable pub onBlock : Geometry → Lent → Plan → ℕ → ℕ → Turn
-onBlock g l p k n = onSome (find (length (l .tags)) (view (length (l .tags)) (labelsOf (l .tags) (l .paths)) means.Log) (logR n (generationAt p n))) End
-    (λ i. On (record { k = k; number = number n; begin = begins g i; page = 0; at = 0; gap = false }))
+unfoldable pub onBlock : Geometry → Lent → Plan → ℕ → ℕ → Start
+onBlock g l p k n = onSome (find (length (l .tags)) (view (length (l .tags)) (labelsOf (l .tags) (l .paths)) means.Log) (logR n (generationAt p n))) Nowhere
+    (λ i. At (record { k = k; number = number n; begin = begins g i; page = 0; at = 0; gap = false }))
 
--- block k, counted over the swept and then the active log, or the end
-unfoldable pub blockAt : Geometry → Lent → Plan → ℕ → Turn
+-- block k, counted over the swept and then the active log, if there is one
+unfoldable pub blockAt : Geometry → Lent → Plan → ℕ → Start
 blockAt g l p k =
     ifLess k (p .swept) (onBlock g l p k k)
-    (ifLess (k - p .swept) (p .active) (onBlock g l p k (p .start .0 + (k - p .swept))) End)
+    (ifLess (k - p .swept) (p .active) (onBlock g l p k (p .start .0 + (k - p .swept))) Nowhere)
+
+-- the turn to a block, or the end
+abbrev pub onto : Start → Turn
+onto (At c) = On c
+onto Nowhere = End
 
 -- ---- pages
 
@@ -60,22 +69,30 @@ pageAt g contents c = record {
 unfoldable pub said : Page → Cursor → Parsed → Turn
 said page c parsed.Malformed = Refused (refused.Message (address (page .address + c .at)))
 said page c parsed.End = On (nextPage c false)
-said page c (parsed.Found m next) = Told m (address (page .address + c .at)) (inPage c next)
+said page c (parsed.Found m next) = Told (inPage c next) m (address (page .address + c .at))
 
 -- what stands at the cursor's position
 unfoldable pub spoken : Geometry → Page → Cursor → Turn
 spoken g page c = said page c (parse (embeddedLimit g) g page (c .at))
 
--- a page that has not been looked at: PAGE, a blank page, or its first message
-unfoldable pub begun : Geometry → Plan → Page → Cursor → Turn
-begun g p page c =
-    ifEq (getD (page .bytes) 0 0) 0xff
-    (ifTrue (blank (page .bytes))
-    (ifTrue (lastAt p (c .k)) (On (nextPage c true)) (Refused (refused.Page (address (page .address)))))
-    (Refused (refused.Page (address (page .address)))))
-    (ifTrue (c .gap) (Refused (refused.Page (address (page .address)))) (spoken g page c))
+-- what a page that has not been looked at is
+unfoldable pub fresh : Plan → List ℕ → Cursor → Opening
+fresh p bytes c =
+    ifEq (getD bytes 0 0) 0xff
+    (ifTrue (blank bytes) (ifTrue (lastAt p (c .k)) opening.Blank opening.Bad) opening.Bad)
+    (ifTrue (c .gap) opening.Bad opening.Written)
+
+-- what the cursor's page is
+unfoldable pub opened : Plan → List ℕ → Cursor → Opening
+opened p bytes c = ifLess 0 (c .at) opening.Written (fresh p bytes c)
+
+-- PAGE, a blank page, or the message at the cursor's position
+abbrev pub begun : Geometry → Page → Cursor → Opening → Turn
+begun g page c opening.Bad = Refused (refused.Page (address (page .address)))
+begun g page c opening.Blank = On (nextPage c true)
+begun g page c opening.Written = spoken g page c
 
 unfoldable pub turnOf : Geometry → Lent → Plan → Cursor → Turn
 turnOf g l p c =
-    ifEq (c .page) (g .pages) (blockAt g l p (c .k + 1))
-    (ifEq (c .at) 0 (begun g p (pageAt g (l .contents) c) c) (spoken g (pageAt g (l .contents) c) c))
+    ifEq (c .page) (g .pages) (onto (blockAt g l p (c .k + 1)))
+    (begun g (pageAt g (l .contents) c) c (opened p (pageAt g (l .contents) c .bytes) c))

@@ -14,7 +14,7 @@ ghost use Rattle.meaning.specs.Flash.{imageOf};
 ghost use Rattle.meaning.specs.Log.{logOf, replayed};
 ghost use Rattle.message.specs.Page.{Ranged, page as thePage};
 ghost use Rattle.plan.specs.Select.{lent};
-ghost use Rattle.log.specs.Turn.{begun, blockAt, inPage, lastAt, nextPage, onBlock, spoken, turnOf};
+ghost use Rattle.log.specs.Turn.{blockAt, inPage, lastAt, nextPage, onBlock, onto, opened, spoken, turnOf};
 ghost use Rattle.log.specs.Cursor.{Ready, Placed, Says, ahead, left, whole};
 
 pub mod insertion;
@@ -34,7 +34,13 @@ pub struct Cursor {
     pub gap: bool,
 }
 
-/// What comes next.
+/// Where the messages of a block begin, if there is one.
+pub enum Start {
+    At(Cursor),
+    Nowhere,
+}
+
+/// What comes next. The cursor stands first, where a turn without a message has it too: a turn then stays in registers.
 pub enum Turn {
     /// The log is at its end.
     End,
@@ -42,8 +48,16 @@ pub enum Turn {
     Refused(Refusal),
     /// No message here: a page or a block is done.
     On(Cursor),
-    /// A message, its address, and where to go on.
-    Told(Message, Address, Cursor),
+    /// Where to go on, a message, and its address.
+    Told(Cursor, Message, Address),
+}
+
+/// What a page is where its messages are asked for.
+enum Opening {
+    Written,
+    /// Blank, where a blank page may stand.
+    Blank,
+    Bad,
 }
 
 // ---- places
@@ -110,15 +124,15 @@ fn on_block(
     p: Plan,
     k: usize,
     n: Number,
-) -> Turn
+) -> Start
     requires { ⌜ Ready g (lent (now tags) (now paths) (now contents)) p ⌝ }
     ensures { λ r. ⌜ r ≡ onBlock g (lent (now (tags .entry)) (now (paths .entry)) (now (contents .entry))) p k (n .0) ⌝ }
 {
     let Found::At(b) = plan::find_log(tags, paths, p, n) else {
-        return Turn::End;
+        return Start::Nowhere;
     };
     let begin = b.0 as u64 * label::block_size(g);
-    Turn::On(Cursor {
+    Start::At(Cursor {
         k,
         number: n,
         begin: begin as u32,
@@ -129,7 +143,7 @@ fn on_block(
 }
 
 // Block k, or the end: "The swept log is replayed first."
-fn block_at(g: Geometry, tags: &[u8], paths: &[u64], contents: &[u8], p: Plan, k: usize) -> Turn
+fn block_at(g: Geometry, tags: &[u8], paths: &[u64], contents: &[u8], p: Plan, k: usize) -> Start
     requires { ⌜ Ready g (lent (now tags) (now paths) (now contents)) p ⌝ }
     ensures { λ r. ⌜ r ≡ blockAt g (lent (now (tags .entry)) (now (paths .entry)) (now (contents .entry))) p k ⌝ }
 {
@@ -140,7 +154,7 @@ fn block_at(g: Geometry, tags: &[u8], paths: &[u64], contents: &[u8], p: Plan, k
     if i < p.active {
         return on_block(g, tags, paths, contents, p, k, Number(p.start.0 + i as u32));
     }
-    Turn::End
+    Start::Nowhere
 }
 
 // ---- pages
@@ -155,37 +169,40 @@ fn message_at(g: Geometry, bytes: &[u8], address: Address, begin: u32, c: Cursor
     match message::parse(message::embedded_limit(g), g, bytes, address, begin, at) {
         Parsed::Malformed => Turn::Refused(Refusal::Message(here)),
         Parsed::End => Turn::On(next_page(c, false)),
-        Parsed::Found(m, past) => Turn::Told(m, here, in_page(c, past)),
+        Parsed::Found(m, past) => Turn::Told(in_page(c, past), m, here),
     }
 }
 
-// A page that has not been looked at. Its first byte tells a blank page from a written one; only a blank one is looked at whole.
-fn page_start(g: Geometry, bytes: &[u8], address: Address, begin: u32, p: Plan, c: Cursor) -> Turn
-    requires { ⌜ Ranged g (now bytes) (address .0) begin × (c .page < 65535) × (c .at ≤ 65536) ⌝ }
-    ensures { λ r. ⌜ r ≡ begun g p (thePage (now (bytes .entry)) (address .0) begin) c ⌝ }
+// What the cursor's page is: one that has not been looked at is told blank from written by its first byte, and only a blank one is
+// looked at whole.
+fn page_start(bytes: &[u8], p: Plan, c: Cursor) -> Opening
+    ensures { λ r. ⌜ r ≡ opened p (now (bytes .entry)) c ⌝ }
 {
+    if 0 < c.at {
+        return Opening::Written;
+    }
     if message::byte_at(bytes, 0) == 0xff {
         if !message::is_blank(bytes) {
-            return Turn::Refused(Refusal::Page(address));
+            return Opening::Bad;
         }
         if is_last(p, c.k) {
-            return Turn::On(next_page(c, true));
+            return Opening::Blank;
         }
-        return Turn::Refused(Refusal::Page(address));
+        return Opening::Bad;
     }
     if c.gap {
-        return Turn::Refused(Refusal::Page(address));
+        return Opening::Bad;
     }
-    message_at(g, bytes, address, begin, c)
+    Opening::Written
 }
 
 // ---- the log
 
-/// The first block, or the end where there is no log.
-pub fn first(g: Geometry, tags: &[u8], paths: &[u64], contents: &[u8], p: Plan) -> Turn
+/// The first block, or nowhere where there is no log.
+pub fn first(g: Geometry, tags: &[u8], paths: &[u64], contents: &[u8], p: Plan) -> Start
     requires { ⌜ Ready g (lent (now tags) (now paths) (now contents)) p ⌝ }
     ensures { λ r. ⌜ r ≡ blockAt g (lent (now (tags .entry)) (now (paths .entry)) (now (contents .entry))) p 0 ⌝ }
-    ensures ahead { λ r. ⌜ Says g (lent (now (tags .entry)) (now (paths .entry)) (now (contents .entry))) p (whole p) (logOf g (replayed g (imageOf g (lent (now (tags .entry)) (now (paths .entry)) (now (contents .entry)))))) r ⌝ }
+    ensures ahead { λ r. ⌜ Says g (lent (now (tags .entry)) (now (paths .entry)) (now (contents .entry))) p (whole p) (logOf g (replayed g (imageOf g (lent (now (tags .entry)) (now (paths .entry)) (now (contents .entry)))))) (onto r) ⌝ }
 {
     block_at(g, tags, paths, contents, p, 0)
 }
@@ -198,7 +215,10 @@ pub fn next(g: Geometry, tags: &[u8], paths: &[u64], contents: &[u8], p: Plan, c
 {
     let page = c.page;
     if page == g.pages {
-        return block_at(g, tags, paths, contents, p, c.k + 1);
+        let Start::At(d) = block_at(g, tags, paths, contents, p, c.k + 1) else {
+            return Turn::End;
+        };
+        return Turn::On(d);
     }
     let number = c.number;
     let address = label::address_of(g, number, page, 0);
@@ -206,8 +226,9 @@ pub fn next(g: Geometry, tags: &[u8], paths: &[u64], contents: &[u8], p: Plan, c
     let a = begin as usize;
     let e = a + g.size as usize;
     let bytes = &contents[a..e];
-    if c.at == 0 {
-        return page_start(g, bytes, address, begin, p, c);
+    match page_start(bytes, p, c) {
+        Opening::Bad => Turn::Refused(Refusal::Page(address)),
+        Opening::Blank => Turn::On(next_page(c, true)),
+        Opening::Written => message_at(g, bytes, address, begin, c),
     }
-    message_at(g, bytes, address, begin, c)
 }

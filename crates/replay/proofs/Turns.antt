@@ -1,30 +1,27 @@
 -- What holds before each turn of the replay holds after it, and what is said at its end.
-use Prim.Native.Nat.{ℕ, _+_, _-_, _*_, _<_, _≤_, _^_}
-use mathlib.Core.Path.{_≡_, refl, sym, ap, ap₂, subst, _∙_}
-use mathlib.Core.Bool.{Bool, true, false}
+use Prim.Native.Nat.{ℕ, _+_, _<_, _≤_, _^_}
+use mathlib.Core.Path.{_≡_, sym, ap, ap₂, subst, _∙_}
+use mathlib.Core.Bool.{true, false}
 use mathlib.Core.List.{List, [], _∷_}
 use native.Mathlib.Omega.{arith}
 use lib.ListN.{length, set, getD}
-use Rattle.base.specs.Choice.{ifLess, onSome}
-use Rattle.base.proofs.Tests.{zero-one}
-use Rattle.base.proofs.Choices.{all-less, all-some}
 use Rattle.meaning.specs.declared.Address.{Address}
-use Rattle.meaning.specs.declared.Extent.{Extent}
 use Rattle.meaning.specs.declared.Geometry.{Geometry}
 use Rattle.meaning.specs.declared.Message.{Message}
 use Rattle.meaning.specs.declared.Plan.{Plan}
-use Rattle.meaning.specs.declared.Record.{Record}
 use Rattle.meaning.specs.declared.Refusal.{Refusal}
 use Rattle.meaning.specs.declared.Refusal.the-variants as refused
-use Rattle.meaning.specs.Answer.{Answer, ok, no, address}
+use Rattle.meaning.specs.Answer.{Answer, ok, no}
 use Rattle.meaning.specs.Flash.{Lent, imageOf}
-use Rattle.meaning.specs.Log.{Log, empty, stopped, entry, logOf, replayed}
+use Rattle.meaning.specs.Log.{Log, entry, logOf, replayed}
 use Rattle.meaning.specs.Replay as meaning
-use Rattle.meaning.specs.Replay.{root, judge, applies, recordsAfter, extentsAfter, changed, full, passedOver, bare, replay}
+use Rattle.meaning.specs.Replay.{root, judge, applies, recordsAfter, extentsAfter, changed, passedOver, bare, replay}
 use Rattle.log.specs.declared.Cursor.{Cursor}
+use Rattle.log.specs.declared.Start.{Start}
+use Rattle.log.specs.declared.Start.the-variants.{At, Nowhere}
 use Rattle.log.specs.declared.Turn.{Turn}
 use Rattle.log.specs.declared.Turn.the-variants as turns
-use Rattle.log.specs.Turn.{blockAt, onBlock}
+use Rattle.log.specs.Turn.{onto}
 use Rattle.log.specs.Cursor.{Placed, Ranged, Ready, Says, Next, ahead, left, whole}
 use Rattle.log.proofs.Told.{swept-low, active-low}
 use Rattle.tree.specs.declared.Tree.{Tree}
@@ -32,44 +29,9 @@ use Rattle.tree.specs.Tree.{live, files, Kept}
 use Rattle.tree.proofs.Laws.{files-length}
 use Rattle.runs.specs.Runs.{gather, vacant}
 use Rattle.change.specs.declared.room.Room.{Room}
-use Rattle.replay.specs.declared.Start.{Start}
-use Rattle.replay.specs.declared.Start.the-variants.{At, Nowhere}
-use Rattle.replay.specs.Replay.{shape, Held, Begins}
+use Rattle.replay.specs.Replay.{shape, Held}
 use Rattle.replay.proofs.Holds.{none-gathered, held-root}
 use Rattle.replay.proofs.Onward.{onward, onward-all, onward-empty, onward-stopped, onward-ignored, onward-applied, onward-full, many-records, many-extents}
-
--- ---- the first turn
-
-abbrev rank : Turn → ℕ
-rank turns.End = 0
-rank (turns.On c) = 0
-rank (turns.Refused r) = 1
-rank (turns.Told m a c) = 1
-
-module _ (g : Geometry) (l : Lent) (p : Plan) where
-  on-block : (k n : ℕ) → rank (onBlock g l p k n) ≡ 0
-  unfolding onBlock
-  on-block k n = all-some (λ (x : Turn). rank x ≡ 0) _ _ _ (λ e. refl) (λ i e. refl)
-
-  at-block : (k : ℕ) → rank (blockAt g l p k) ≡ 0
-  unfolding blockAt
-  at-block k = all-less (λ (x : Turn). rank x ≡ 0) _ _ _ _ (λ h. on-block k k) (λ h. all-less (λ (x : Turn). rank x ≡ 0) _ _ _ _ (λ u. on-block k (p .start .0 + (k - p .swept))) (λ u. refl))
-
-  abbrev log : Log
-  log = logOf g (replayed g (imageOf g l))
-
-  module _ {x : Turn} (b : x ≡ blockAt g l p 0) (s : Says g l p (whole p) log x) where
-    pub begins-on : {c : Cursor} → x ≡ turns.On c → Begins g l p (At c)
-    begins-on e = subst (Says g l p (whole p) log) e s
-
-    pub begins-end : x ≡ turns.End → Begins g l p Nowhere
-    begins-end e = subst (Says g l p (whole p) log) e s
-
-    pub begins-refused : {r : Refusal} → x ≡ turns.Refused r → Begins g l p Nowhere
-    begins-refused e = absurd (zero-one (sym (ap rank b ∙ at-block 0) ∙ ap rank e))
-
-    pub begins-told : {m : Message} {a : Address} {c : Cursor} → x ≡ turns.Told m a c → Begins g l p Nowhere
-    begins-told e = absurd (zero-one (sym (ap rank b ∙ at-block 0) ∙ ap rank e))
 
 -- ---- before a turn
 
@@ -96,10 +58,13 @@ module _ (t : Tree) (f : files t ≡ root ∷ []) (k : Kept t) (spans rows : Lis
   start-bare = rw e (ap₂ {C = meaning.Tree} (λ rs xs. record { records = rs; extents = xs; applied = 0; ignored = 0 }) f (none-gathered t k f spans rows hs hr))
 
 module _ (g : Geometry) (l : Lent) (p : Plan) where
-  pub going-first : {t : Tree} {spans rows : List (List ℕ)} {room : Room} {s : Start} {c : Cursor} → Begins g l p s → s ≡ At c → Held t spans rows room → shape t spans rows 0 0 ≡ bare
+  abbrev Begins : Start → Type 0
+  Begins s = Says g l p (whole p) (logOf g (replayed g (imageOf g l))) (onto s)
+
+  pub going-first : {t : Tree} {spans rows : List (List ℕ)} {room : Room} {s : Start} {c : Cursor} → Begins s → s ≡ At c → Held t spans rows room → shape t spans rows 0 0 ≡ bare
       → Going g l p t spans rows room 0 0 c
   going-first {t} {spans} {rows} {room} {s} {c} b e h z =
-      let n = subst (Begins g l p) e b in
+      let n = subst Begins e b in
       record {
         at = n .1 .placed;
         held = h;
@@ -107,10 +72,10 @@ module _ (g : Geometry) (l : Lent) (p : Plan) where
         counts = omega (arith, n .1 .less);
       }
 
-  pub nowhere-so : (t : Tree) (spans rows : List (List ℕ)) {s : Start} → Begins g l p s → s ≡ Nowhere → shape t spans rows 0 0 ≡ bare
+  pub nowhere-so : (t : Tree) (spans rows : List (List ℕ)) {s : Start} → Begins s → s ≡ Nowhere → shape t spans rows 0 0 ≡ bare
       → ok (shape t spans rows 0 0) ≡ replay (logOf g (replayed g (imageOf g l)))
   nowhere-so t spans rows b e z =
-      ap {B = Answer meaning.Tree} ok z ∙ sym (onward-empty bare) ∙ sym (ap (λ (x : Log). onward x bare) (subst (Begins g l p) e b)) ∙ onward-all _
+      ap {B = Answer meaning.Tree} ok z ∙ sym (onward-empty bare) ∙ sym (ap (λ (x : Log). onward x bare) (subst Begins e b)) ∙ onward-all _
 
   pub counts-low : Ready g l p → whole p < 2 ^ 32
   unfolding whole
@@ -122,7 +87,7 @@ module _ (g : Geometry) (l : Lent) (p : Plan) where
 module _ {g : Geometry} {l : Lent} {p : Plan} where
   module _ {t : Tree} {spans rows : List (List ℕ)} {room : Room} {applied ignored : ℕ} {c : Cursor} (k : Going g l p t spans rows room applied ignored c) where
     module _ {x : Turn} (s : Says g l p (left g p c) (ahead g l c) x) where
-      pub heard : {m : Message} {a : Address} {d : Cursor} → x ≡ turns.Told m a d → Heard g l p c m a d
+      pub heard : {m : Message} {a : Address} {d : Cursor} → x ≡ turns.Told d m a → Heard g l p c m a d
       heard e =
           let n = subst (Says g l p (left g p c) (ahead g l c)) e s in
           record { is = n .0; next = n .1; ranged = n .2 }

@@ -3,13 +3,7 @@ use Prim.Native.Nat.{ℕ}
 use mathlib.Core.Path.{_≡_}
 use mathlib.Core.List.{List}
 use lib.ListN.{length}
-use Rattle.meaning.specs.declared.Geometry.{Geometry}
-use Rattle.meaning.specs.declared.Plan.{Plan}
-use Rattle.meaning.specs.declared.Refusal.{Refusal}
 use Rattle.meaning.specs.Answer.{Answer, ok, no}
-use Rattle.meaning.specs.Flash.{Lent, imageOf}
-use Rattle.meaning.specs.Log.{empty, logOf, replayed}
-use Rattle.log.specs.Cursor.{Next, ahead, whole}
 use Rattle.meaning.specs.Replay as meaning
 use Rattle.tree.specs.declared.Tree.{Tree}
 use Rattle.tree.specs.Tree.{recordAt, live, files, Kept}
@@ -18,8 +12,6 @@ use Rattle.change.specs.declared.room.Room.{Room}
 use Rattle.replay.specs.declared.Said.{Said}
 use Rattle.replay.specs.declared.Said.the-variants.{Whole, Refused}
 use Rattle.replay.specs.declared.Replayed.{Replayed}
-use Rattle.replay.specs.declared.Start.{Start}
-use Rattle.replay.specs.declared.Start.the-variants.{At, Nowhere}
 
 -- the path of the record in a slot
 abbrev pub pathAt : Tree → ℕ → ℕ
@@ -34,12 +26,6 @@ pub record Held (t : Tree) (spans rows : List (List ℕ)) (room : Room) : Type 0
   pub placed : Placed spans rows (room .bump) (live t)
   pub owned : Owned (pathAt t) spans rows (live t)
   pub used : room .used ≡ length (gather spans rows (live t))
-
--- ---- where it begins
-
-abbrev pub Begins : Geometry → Lent → Plan → Start → Type 0
-Begins g l p (At c) = (logOf g (replayed g (imageOf g l)) ≡ ahead g l c) × Next g l p (whole p) c
-Begins g l p Nowhere = logOf g (replayed g (imageOf g l)) ≡ empty
 
 -- ---- the answer
 

@@ -8,11 +8,11 @@ ghost use Rattle.meaning.specs.Log.{logOf, replayed};
 ghost use Rattle.meaning.specs.Replay.{replay as theReplay};
 ghost use Rattle.plan.specs.Select.{lent};
 ghost use Rattle.log.specs.Cursor.{Ready};
-ghost use Rattle.replay.specs.Replay.{answerOf, Begins, WholeHeld};
+ghost use Rattle.replay.specs.Replay.{answerOf, WholeHeld};
 use change::Edit;
 use change::Made;
 use change::Room;
-use log::Cursor;
+use log::Start;
 use log::Turn;
 use meaning::Address;
 use meaning::Geometry;
@@ -33,24 +33,6 @@ pub struct Replayed {
     pub applied: u64,
     pub ignored: u64,
     pub said: Said,
-}
-
-/// Where the log begins, if there is one.
-enum Start {
-    At(Cursor),
-    Nowhere,
-}
-
-fn begin(g: Geometry, tags: &[u8], paths: &[u64], contents: &[u8], p: Plan) -> Start
-    requires { ⌜ Ready g (lent (now tags) (now paths) (now contents)) p ⌝ }
-    ensures { λ r. ⌜ Begins g (lent (now (tags .entry)) (now (paths .entry)) (now (contents .entry))) p r ⌝ }
-{
-    match log::first(g, tags, paths, contents, p) {
-        Turn::On(c) => Start::At(c),
-        Turn::End => Start::Nowhere,
-        Turn::Refused(_) => Start::Nowhere,
-        Turn::Told(_, _, _) => Start::Nowhere,
-    }
 }
 
 /// The tree after the log. The rows of its files stand in spans and rows; what scratch holds is of no use.
@@ -76,7 +58,7 @@ pub fn replay(
     let mut ignored: u64 = 0;
     // Where a path stood last, by its low bits: a guess that is tested before it is used.
     let mut near = [0u32; 256];
-    let Start::At(first) = begin(g, tags, paths, contents, p) else {
+    let Start::At(first) = log::first(g, tags, paths, contents, p) else {
         return Replayed {
             tree: t,
             room,
@@ -109,7 +91,7 @@ pub fn replay(
             Turn::On(d) => {
                 c = d;
             }
-            Turn::Told(m, a, d) => {
+            Turn::Told(d, m, a) => {
                 c = d;
                 let n = t.count;
                 let path = change::path_of(m);

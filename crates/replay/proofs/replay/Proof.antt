@@ -26,14 +26,14 @@ fresh-requires c κs =
     let t = c .before .before .bare in let s = c .before .before .before .before .before .before in
     first-low _ (t .ensures .1) (t .ensures .0) (s .args .spans .now) (s .args .rows .now) (s .pre .1) (s .pre .2)
 
-begin-requires : tie.Need-begin-requires Inv-loop μ-loop
-begin-requires c κs = let s = c .before .before .before .before .before .before .before .before in (s .pre .0)
+first-requires : tie.Need-first-requires Inv-loop μ-loop
+first-requires c κs = let s = c .before .before .before .before .before .before .before .before in (s .pre .0)
 
 returns : tie.Need-returns Inv-loop μ-loop
 returns c =
-    let enum-told = c .enum-told in let g = c .before .before .begin in let z = c .before .before .before .before .fresh in
+    let enum-told = c .enum-told in let g = c .before .before .first in let z = c .before .before .before .before .fresh in
     let c1 = c .before .before .before .before .before .before .before in let t = c1 .bare in let s = c1 .before .before .before .before in (
-      nowhere-so _ _ _ (t .result) _ (s .args .rows .now) (g .ensures) (enum-told .given .1) (start-bare (t .result) (t .ensures .0) (t .ensures .1) (s
+      nowhere-so _ _ _ (t .result) _ (s .args .rows .now) (g .ensures .1) (enum-told .given .1) (start-bare (t .result) (t .ensures .0) (t .ensures .1) (s
           .args .spans .now) (s .args .rows .now) (s .pre .1) (s .pre .2) (z .ensures)),
       start-held (t .result) (t .ensures .0) (t .ensures .1) (s .args .spans
           .now) (s .args .rows .now) (s .pre .1) (s .pre .2) (z .ensures),
@@ -41,9 +41,9 @@ returns c =
 
 loop-holds : tie.Need-loop-holds Inv-loop μ-loop
 loop-holds c =
-    let first = c .before .first in let g = c .before .before .before .begin in let z = c .before .before .before .before .before .fresh in
+    let at = c .before .first2 in let g = c .before .before .before .first in let z = c .before .before .before .before .before .fresh in
     let c1 = c .before .before .before .before .before .before .before .before in let t = c1 .bare in let s = c1 .before .before .before .before in (
-      going-first _ _ _ (g .ensures) (first .given .1) (start-held (t .result) (t .ensures .0) (t .ensures .1) (s .args .spans .now) (s .args .rows .now)
+      going-first _ _ _ (g .ensures .1) (at .given .1) (start-held (t .result) (t .ensures .0) (t .ensures .1) (s .args .spans .now) (s .args .rows .now)
           (s .pre .1) (s .pre .2) (z .ensures)) (start-bare (t .result) (t .ensures .0) (t .ensures .1) (s .args .spans .now) (s .args .rows .now) (s .pre .1)
           (s .pre .2) (z .ensures)),
       refl,
@@ -111,53 +111,53 @@ loop-again c =
 
 find-near-requires : tie.Need-find-near-requires Inv-loop μ-loop
 find-near-requires c κs =
-    let m = c .before .before .before .before .m in let c1 = c .before .before .before .before .before .before in let n = c1 .next in
-    let l = c1 .before .loop in let k = l .inv .0 in let y = heard k (n .ensures .1) (m .given .1) in
+    let told = c .before .before .before .before .d2 in let c1 = c .before .before .before .before .before .before in let n = c1 .next in
+    let l = c1 .before .loop in let k = l .inv .0 in let y = heard k (n .ensures .1) (told .given .1) in
     may-find k y
 
 cast-near : tie.Need-cast-near Inv-loop μ-loop
 cast-near c =
     let i = c .before .i in let f = c .before .before .before .find-near in let c1 = c .before .before .before .before .before .before in let q = c1 .path-of in
-    let m = c1 .before .before .m in let n = c1 .before .before .before .before .next in let l = c1 .before .before .before .before .before .loop in
-    let k = l .inv .0 in let y = heard k (n .ensures .1) (m .given .1) in
+    let told = c1 .before .before .d2 in let n = c1 .before .before .before .before .next in let l = c1 .before .before .before .before .before .loop in
+    let k = l .inv .0 in let y = heard k (n .ensures .1) (told .given .1) in
     omega (arith, at-low k y (f .ensures) (i .given .1) (q .ensures))
 
 mul-s : tie.Need-mul-s Inv-loop μ-loop
 mul-s c =
     let i = c .before .i in let f = c .before .before .before .find-near in let c1 = c .before .before .before .before .before .before in let q = c1 .path-of in
-    let m = c1 .before .before .m in let n = c1 .before .before .before .before .next in let l = c1 .before .before .before .before .before .loop in
-    let k = l .inv .0 in let y = heard k (n .ensures .1) (m .given .1) in
+    let told = c1 .before .before .d2 in let n = c1 .before .before .before .before .next in let l = c1 .before .before .before .before .before .loop in
+    let k = l .inv .0 in let y = heard k (n .ensures .1) (told .given .1) in
     omega (arith, at-low k y (f .ensures) (i .given .1) (q .ensures))
 
 element-copy-out-s : tie.Need-element-copy-out-s Inv-loop μ-loop
 element-copy-out-s c =
     let i = c .before .i in let f = c .before .before .before .find-near in let c1 = c .before .before .before .before .before .before in let q = c1 .path-of in
-    let m = c1 .before .before .m in let n = c1 .before .before .before .before .next in let l = c1 .before .before .before .before .before .loop in
-    let k = l .inv .0 in let y = heard k (n .ensures .1) (m .given .1) in
+    let told = c1 .before .before .d2 in let n = c1 .before .before .before .before .next in let l = c1 .before .before .before .before .before .loop in
+    let k = l .inv .0 in let y = heard k (n .ensures .1) (told .given .1) in
     at-low k y (f .ensures) (i .given .1) (q .ensures)
 
 cast-s : tie.Need-cast-s Inv-loop μ-loop
 cast-s c =
     let i = c .before .before .i in let f = c .before .before .before .before .find-near in
-    let c1 = c .before .before .before .before .before .before .before in let q = c1 .path-of in let m = c1 .before .before .m in
+    let c1 = c .before .before .before .before .before .before .before in let q = c1 .path-of in let told = c1 .before .before .d2 in
     let n = c1 .before .before .before .before .next in let l = c1 .before .before .before .before .before .loop in let k = l .inv .0 in
-    let y = heard k (n .ensures .1) (m .given .1) in
+    let y = heard k (n .ensures .1) (told .given .1) in
     omega (arith, at-slot k y (f .ensures) (i .given .1) (q .ensures))
 
 mul-f : tie.Need-mul-f Inv-loop μ-loop
 mul-f c =
     let i = c .before .before .i in let f = c .before .before .before .before .find-near in
-    let c1 = c .before .before .before .before .before .before .before in let q = c1 .path-of in let m = c1 .before .before .m in
+    let c1 = c .before .before .before .before .before .before .before in let q = c1 .path-of in let told = c1 .before .before .d2 in
     let n = c1 .before .before .before .before .next in let l = c1 .before .before .before .before .before .loop in let k = l .inv .0 in
-    let y = heard k (n .ensures .1) (m .given .1) in
+    let y = heard k (n .ensures .1) (told .given .1) in
     omega (arith, at-slot k y (f .ensures) (i .given .1) (q .ensures))
 
 element-copy-out-f : tie.Need-element-copy-out-f Inv-loop μ-loop
 element-copy-out-f c =
     let i = c .before .before .i in let f = c .before .before .before .before .find-near in
-    let c1 = c .before .before .before .before .before .before .before in let q = c1 .path-of in let m = c1 .before .before .m in
+    let c1 = c .before .before .before .before .before .before .before in let q = c1 .path-of in let told = c1 .before .before .d2 in
     let n = c1 .before .before .before .before .next in let l = c1 .before .before .before .before .before .loop in let k = l .inv .0 in
-    let y = heard k (n .ensures .1) (m .given .1) in
+    let y = heard k (n .ensures .1) (told .given .1) in
     at-slot k y (f .ensures) (i .given .1) (q .ensures)
 
 add-ignored : tie.Need-add-ignored Inv-loop μ-loop
@@ -169,24 +169,24 @@ add-ignored c =
 
 loop-less-2 : tie.Need-loop-less-2 Inv-loop μ-loop
 loop-less-2 c =
-    let c1 = c .before .before .before .before .before .before .before .before .before .before .before .before .before in let m = c1 .m in
-    let n = c1 .before .before .next in let l = c1 .before .before .before .loop in let k = l .inv .0 in let y = heard k (n .ensures .1) (m .given .1) in
+    let c1 = c .before .before .before .before .before .before .before .before .before .before .before .before .before in let told = c1 .d2 in
+    let n = c1 .before .before .next in let l = c1 .before .before .before .loop in let k = l .inv .0 in let y = heard k (n .ensures .1) (told .given .1) in
     y .next .less
 
 loop-again-2 : tie.Need-loop-again-2 Inv-loop μ-loop
 loop-again-2 c =
     let enum-told3 = c .enum-told3 in let e = c .before .before .edit-of in let c1 = c .before .before .before .before .before .before in let i = c1 .i in
     let f = c1 .before .before .find-near in let q = c1 .before .before .before .before .before .path-of in
-    let c2 = c1 .before .before .before .before .before .before .before in let m = c2 .m in let n = c2 .before .before .next in
-    let l = c2 .before .before .before .loop in let k = l .inv .0 in let y = heard k (n .ensures .1) (m .given .1) in
+    let c2 = c1 .before .before .before .before .before .before .before in let told = c2 .d2 in let n = c2 .before .before .next in
+    let l = c2 .before .before .before .loop in let k = l .inv .0 in let y = heard k (n .ensures .1) (told .given .1) in
     (at-ignored k y (f .ensures) (i .given .1) (q .ensures) (e .ensures) (enum-told3 .given .1) (omega arith), l .inv .1, l .inv .2)
 
 extents-after-requires : tie.Need-extents-after-requires Inv-loop μ-loop
 extents-after-requires c κs =
     let c1 = c .before .before .before .before .before .before .before .before .before .before .before in let i = c1 .i in
     let f = c1 .before .before .find-near in let q = c1 .before .before .before .before .before .path-of in
-    let c2 = c1 .before .before .before .before .before .before .before in let m = c2 .m in let n = c2 .before .before .next in
-    let l = c2 .before .before .before .loop in let k = l .inv .0 in let y = heard k (n .ensures .1) (m .given .1) in
+    let c2 = c1 .before .before .before .before .before .before .before in let told = c2 .d2 in let n = c2 .before .before .next in
+    let l = c2 .before .before .before .loop in let k = l .inv .0 in let y = heard k (n .ensures .1) (told .given .1) in
     let e = at-extents k y (f .ensures) (i .given .1) (q .ensures) in (e .0, l .inv .2, e .1, e .2, e .3)
 
 same-length-8 : tie.Need-same-length-8 Inv-loop μ-loop
@@ -217,31 +217,31 @@ returns-4 c =
     let c1 = c .before .before .before .before .before .before .before .before .before .before .before in let enum-told4 = c1 .enum-told4 in
     let e = c1 .before .before .edit-of in let c2 = c1 .before .before .before .before .before .before in let i = c2 .i in
     let f = c2 .before .before .find-near in let q = c2 .before .before .before .before .before .path-of in
-    let c3 = c2 .before .before .before .before .before .before .before in let m = c3 .m in let n = c3 .before .before .next in
-    let l = c3 .before .before .before .loop in let k = l .inv .0 in let y = heard k (n .ensures .1) (m .given .1) in
+    let c3 = c2 .before .before .before .before .before .before .before in let told = c3 .d2 in let n = c3 .before .before .next in
+    let l = c3 .before .before .before .loop in let k = l .inv .0 in let y = heard k (n .ensures .1) (told .given .1) in
     (at-full k y (f .ensures) (i .given .1) (q .ensures) (x .ensures) (e .ensures) (enum-told4 .given .1) (omega (arith, if1 .taken)), tt)
 
 revised-requires : tie.Need-revised-requires Inv-loop μ-loop
 revised-requires c κs =
     let c1 = c .before .before .before .before .before .before .before .before .before .before .before .before .before .before .before .before .before .before .before .before .before .before .before .before in
-    let m = c1 .m in let n = c1 .before .before .next in let l = c1 .before .before .before .loop in let k = l .inv .0 in
-    let y = heard k (n .ensures .1) (m .given .1) in
+    let told = c1 .d2 in let n = c1 .before .before .next in let l = c1 .before .before .before .loop in let k = l .inv .0 in
+    let y = heard k (n .ensures .1) (told .given .1) in
     y .ranged
 
 mul-t79 : tie.Need-mul-t79 Inv-loop μ-loop
 mul-t79 c =
     let c1 = c .before .before .before .before .before .before .before .before .before .before .before .before .before .before .before .before .before .before in
     let i = c1 .i in let f = c1 .before .before .find-near in let q = c1 .before .before .before .before .before .path-of in
-    let c2 = c1 .before .before .before .before .before .before .before in let m = c2 .m in let n = c2 .before .before .next in
-    let l = c2 .before .before .before .loop in let k = l .inv .0 in let y = heard k (n .ensures .1) (m .given .1) in
+    let c2 = c1 .before .before .before .before .before .before .before in let told = c2 .d2 in let n = c2 .before .before .next in
+    let l = c2 .before .before .before .loop in let k = l .inv .0 in let y = heard k (n .ensures .1) (told .given .1) in
     omega (arith, at-slot k y (f .ensures) (i .given .1) (q .ensures))
 
 element-set-from-t : tie.Need-element-set-from-t Inv-loop μ-loop
 element-set-from-t c =
     let c1 = c .before .before .before .before .before .before .before .before .before .before .before .before .before .before .before .before .before .before in
     let i = c1 .i in let f = c1 .before .before .find-near in let q = c1 .before .before .before .before .before .path-of in
-    let c2 = c1 .before .before .before .before .before .before .before in let m = c2 .m in let n = c2 .before .before .next in
-    let l = c2 .before .before .before .loop in let k = l .inv .0 in let y = heard k (n .ensures .1) (m .given .1) in
+    let c2 = c1 .before .before .before .before .before .before .before in let told = c2 .d2 in let n = c2 .before .before .next in
+    let l = c2 .before .before .before .loop in let k = l .inv .0 in let y = heard k (n .ensures .1) (told .given .1) in
     at-slot k y (f .ensures) (i .given .1) (q .ensures)
 
 add-applied : tie.Need-add-applied Inv-loop μ-loop
@@ -254,8 +254,8 @@ add-applied c =
 loop-less-3 : tie.Need-loop-less-3 Inv-loop μ-loop
 loop-less-3 c =
     let c1 = c .before .before .before .before .before .before .before .before .before .before .before .before .before .before .before .before .before .before .before .before .before .before .before .before .before in
-    let m = c1 .m in let n = c1 .before .before .next in let l = c1 .before .before .before .loop in let k = l .inv .0 in
-    let y = heard k (n .ensures .1) (m .given .1) in
+    let told = c1 .d2 in let n = c1 .before .before .next in let l = c1 .before .before .before .loop in let k = l .inv .0 in
+    let y = heard k (n .ensures .1) (told .given .1) in
     y .next .less
 
 loop-again-3 : tie.Need-loop-again-3 Inv-loop μ-loop
@@ -264,8 +264,8 @@ loop-again-3 c =
     let c1 = c .before .before .before .before .before .before in let x = c1 .extents-after in let c2 = c1 .before .before .before .before .before .before in
     let enum-told4 = c2 .enum-told4 in let e = c2 .before .before .edit-of in let c3 = c2 .before .before .before .before .before .before in let i = c3 .i in
     let f = c3 .before .before .find-near in let q = c3 .before .before .before .before .before .path-of in
-    let c4 = c3 .before .before .before .before .before .before .before in let m = c4 .m in let n = c4 .before .before .next in
-    let l = c4 .before .before .before .loop in let k = l .inv .0 in let y = heard k (n .ensures .1) (m .given .1) in (
+    let c4 = c3 .before .before .before .before .before .before .before in let told = c4 .d2 in let n = c4 .before .before .next in
+    let l = c4 .before .before .before .loop in let k = l .inv .0 in let y = heard k (n .ensures .1) (told .given .1) in (
       at-changed k y (f .ensures) (i .given .1) (q .ensures) (x .ensures) (e .ensures) (enum-told4 .given .1) (omega (arith, if1 .left)) (r .ensures)
           (omega arith),
       a .given ∙ l .inv .1,
@@ -288,8 +288,8 @@ add-ignored-2 c =
 loop-less-4 : tie.Need-loop-less-4 Inv-loop μ-loop
 loop-less-4 c =
     let c1 = c .before .before .before .before .before .before .before .before .before .before .before .before .before .before .before .before .before in
-    let m = c1 .m in let n = c1 .before .before .next in let l = c1 .before .before .before .loop in let k = l .inv .0 in
-    let y = heard k (n .ensures .1) (m .given .1) in
+    let told = c1 .d2 in let n = c1 .before .before .next in let l = c1 .before .before .before .loop in let k = l .inv .0 in
+    let y = heard k (n .ensures .1) (told .given .1) in
     y .next .less
 
 loop-again-4 : tie.Need-loop-again-4 Inv-loop μ-loop
@@ -297,9 +297,9 @@ loop-again-4 c =
     let if3 = c .if3 in let v = c .before .is-empty in let if2 = c .before .before .if2 in let d = c .before .before .before .is-dir in
     let enum-told5 = c .before .before .before .before .enum-told5 in let c1 = c .before .before .before .before .before .before in let e = c1 .edit-of in
     let i = c1 .before .before .before .before .i in let c2 = c1 .before .before .before .before .before .before in let f = c2 .find-near in
-    let q = c2 .before .before .before .path-of in let m = c2 .before .before .before .before .before .m in
+    let q = c2 .before .before .before .path-of in let told = c2 .before .before .before .before .before .d2 in
     let c3 = c2 .before .before .before .before .before .before .before in let n = c3 .next in let l = c3 .before .loop in let k = l .inv .0 in
-    let y = heard k (n .ensures .1) (m .given .1) in (
+    let y = heard k (n .ensures .1) (told .given .1) in (
       at-kept k y (f .ensures) (i .given .1) (q .ensures) (e .ensures) (enum-told5 .given .1) (d .ensures) (if2 .taken) (v .ensures) (not-true _ (if3
           .taken)) (omega arith),
       l .inv .1,
@@ -310,32 +310,32 @@ extents-after-requires-2 : tie.Need-extents-after-requires-2 Inv-loop μ-loop
 extents-after-requires-2 c κs =
     let c1 = c .before .before .before .before .before .before .before .before .before .before .before .before .before in let i = c1 .i in
     let f = c1 .before .before .find-near in let q = c1 .before .before .before .before .before .path-of in
-    let c2 = c1 .before .before .before .before .before .before .before in let m = c2 .m in let n = c2 .before .before .next in
-    let l = c2 .before .before .before .loop in let k = l .inv .0 in let y = heard k (n .ensures .1) (m .given .1) in
+    let c2 = c1 .before .before .before .before .before .before .before in let told = c2 .d2 in let n = c2 .before .before .next in
+    let l = c2 .before .before .before .loop in let k = l .inv .0 in let y = heard k (n .ensures .1) (told .given .1) in
     let e = at-extents k y (f .ensures) (i .given .1) (q .ensures) in (e .0, l .inv .2, e .1, e .2, e .3)
 
 close-key-requires : tie.Need-close-key-requires Inv-loop μ-loop
 close-key-requires c κs =
     let c1 = c .before .before .before .before .before .before .before .before .before .before .before .before .before .before .before .before .before .before in
     let i = c1 .i in let f = c1 .before .before .find-near in let q = c1 .before .before .before .before .before .path-of in
-    let c2 = c1 .before .before .before .before .before .before .before in let m = c2 .m in let n = c2 .before .before .next in
-    let l = c2 .before .before .before .loop in let k = l .inv .0 in let y = heard k (n .ensures .1) (m .given .1) in
+    let c2 = c1 .before .before .before .before .before .before .before in let told = c2 .d2 in let n = c2 .before .before .next in
+    let l = c2 .before .before .before .loop in let k = l .inv .0 in let y = heard k (n .ensures .1) (told .given .1) in
     (at-count k y (f .ensures) (i .given .1) (q .ensures), (k .held .kept .few, k .held .kept .keys-len))
 
 close-slot-requires : tie.Need-close-slot-requires Inv-loop μ-loop
 close-slot-requires c κs =
     let c1 = c .before .before .before .before .before .before .before .before .before .before .before .before .before .before .before .before .before .before .before .before in
     let i = c1 .i in let f = c1 .before .before .find-near in let q = c1 .before .before .before .before .before .path-of in
-    let c2 = c1 .before .before .before .before .before .before .before in let m = c2 .m in let n = c2 .before .before .next in
-    let l = c2 .before .before .before .loop in let k = l .inv .0 in let y = heard k (n .ensures .1) (m .given .1) in
+    let c2 = c1 .before .before .before .before .before .before .before in let told = c2 .d2 in let n = c2 .before .before .next in
+    let l = c2 .before .before .before .loop in let k = l .inv .0 in let y = heard k (n .ensures .1) (told .given .1) in
     (at-count k y (f .ensures) (i .given .1) (q .ensures), (k .held .kept .few, k .held .kept .slots-len))
 
 sub-t : tie.Need-sub-t Inv-loop μ-loop
 sub-t c =
     let c1 = c .before .before .before .before .before .before .before .before .before .before .before .before .before .before .before .before .before .before .before .before .before in
     let i = c1 .i in let f = c1 .before .before .find-near in let q = c1 .before .before .before .before .before .path-of in
-    let c2 = c1 .before .before .before .before .before .before .before in let m = c2 .m in let n = c2 .before .before .next in
-    let l = c2 .before .before .before .loop in let k = l .inv .0 in let y = heard k (n .ensures .1) (m .given .1) in
+    let c2 = c1 .before .before .before .before .before .before .before in let told = c2 .d2 in let n = c2 .before .before .next in
+    let l = c2 .before .before .before .loop in let k = l .inv .0 in let y = heard k (n .ensures .1) (told .given .1) in
     omega (arith, at-count k y (f .ensures) (i .given .1) (q .ensures))
 
 add-applied-2 : tie.Need-add-applied-2 Inv-loop μ-loop
@@ -349,8 +349,8 @@ sub-find : tie.Need-sub-find Inv-loop μ-loop
 sub-find c =
     let c1 = c .before .before .before .before .before .before .before .before .before .before .before .before .before .before .before .before .before .before .before .before .before .before .before in
     let i = c1 .i in let f = c1 .before .before .find-near in let q = c1 .before .before .before .before .before .path-of in
-    let c2 = c1 .before .before .before .before .before .before .before in let m = c2 .m in let n = c2 .before .before .next in
-    let l = c2 .before .before .before .loop in let k = l .inv .0 in let y = heard k (n .ensures .1) (m .given .1) in
+    let c2 = c1 .before .before .before .before .before .before .before in let told = c2 .d2 in let n = c2 .before .before .next in
+    let l = c2 .before .before .before .loop in let k = l .inv .0 in let y = heard k (n .ensures .1) (told .given .1) in
     omega (arith, at-count k y (f .ensures) (i .given .1) (q .ensures))
 
 find-requires : tie.Need-find-requires Inv-loop μ-loop
@@ -360,8 +360,8 @@ find-requires c κs =
     let c2 = c1 .before .before .before .before .before .before in let if2 = c2 .if2 in let d = c2 .before .is-dir in
     let enum-told5 = c2 .before .before .enum-told5 in let e = c2 .before .before .before .before .edit-of in
     let c3 = c2 .before .before .before .before .before .before .before .before in let i = c3 .i in let f = c3 .before .before .find-near in
-    let q = c3 .before .before .before .before .before .path-of in let c4 = c3 .before .before .before .before .before .before .before in let m = c4 .m in
-    let n = c4 .before .before .next in let l = c4 .before .before .before .loop in let k = l .inv .0 in let y = heard k (n .ensures .1) (m .given .1) in
+    let q = c3 .before .before .before .before .before .path-of in let c4 = c3 .before .before .before .before .before .before .before in let told = c4 .d2 in
+    let n = c4 .before .before .next in let l = c4 .before .before .before .loop in let k = l .inv .0 in let y = heard k (n .ensures .1) (told .given .1) in
     may-find-home k y (f .ensures) (i .given .1) (q .ensures) (x .ensures) (e .ensures) (enum-told5 .given .1) (⊎-elim (λ x. may-empty k y (f .ensures) (i
     .given .1) (q .ensures) (x .1 .ensures) (not-false _ (x .2 .left))) (λ x. may-plain k y (f .ensures) (i .given .1) (q .ensures) (d .ensures) (x
     .left)) (if2 .came)) (removed-is _ _ (w .ensures) (o .ensures))
@@ -369,8 +369,8 @@ find-requires c κs =
 loop-less-5 : tie.Need-loop-less-5 Inv-loop μ-loop
 loop-less-5 c =
     let c1 = c .before .before .before .before .before .before .before .before .before .before .before .before .before .before .before .before .before .before .before .before .before .before .before .before .before .before .before .before .before .before .before .before .before in
-    let m = c1 .m in let n = c1 .before .before .next in let l = c1 .before .before .before .loop in let k = l .inv .0 in
-    let y = heard k (n .ensures .1) (m .given .1) in
+    let told = c1 .d2 in let n = c1 .before .before .next in let l = c1 .before .before .before .loop in let k = l .inv .0 in
+    let y = heard k (n .ensures .1) (told .given .1) in
     y .next .less
 
 loop-again-5 : tie.Need-loop-again-5 Inv-loop μ-loop
@@ -381,8 +381,8 @@ loop-again-5 c =
     let c2 = c1 .before .before .before .before .before .before .before .before .before .before .before in let if2 = c2 .if2 in let d = c2 .before .is-dir in
     let enum-told5 = c2 .before .before .enum-told5 in let e = c2 .before .before .before .before .edit-of in
     let c3 = c2 .before .before .before .before .before .before .before .before in let i = c3 .i in let f = c3 .before .before .find-near in
-    let q = c3 .before .before .before .before .before .path-of in let c4 = c3 .before .before .before .before .before .before .before in let m = c4 .m in
-    let n = c4 .before .before .next in let l = c4 .before .before .before .loop in let k = l .inv .0 in let y = heard k (n .ensures .1) (m .given .1) in (
+    let q = c3 .before .before .before .before .before .path-of in let c4 = c3 .before .before .before .before .before .before .before in let told = c4 .d2 in
+    let n = c4 .before .before .next in let l = c4 .before .before .before .loop in let k = l .inv .0 in let y = heard k (n .ensures .1) (told .given .1) in (
       at-removed k y (f .ensures) (i .given .1) (q .ensures) (x .ensures) (e .ensures) (enum-told5 .given .1) (⊎-elim (λ x. may-empty k y (f .ensures) (i
           .given .1) (q .ensures) (x .1 .ensures) (not-false _ (x .2 .left))) (λ x. may-plain k y (f .ensures) (i .given .1) (q .ensures) (d .ensures) (x
           .left)) (if2 .came)) (removed-is _ _ (w .ensures) (o .ensures)) (h .ensures) (enum-told6 .given .1) (omega arith),
@@ -398,8 +398,8 @@ mul-h c =
     let c3 = c2 .before .before .before .before .before .before in let if2 = c3 .if2 in let d = c3 .before .is-dir in
     let enum-told5 = c3 .before .before .enum-told5 in let e = c3 .before .before .before .before .edit-of in
     let c4 = c3 .before .before .before .before .before .before .before .before in let i = c4 .i in let f = c4 .before .before .find-near in
-    let q = c4 .before .before .before .before .before .path-of in let c5 = c4 .before .before .before .before .before .before .before in let m = c5 .m in
-    let n = c5 .before .before .next in let l = c5 .before .before .before .loop in let k = l .inv .0 in let y = heard k (n .ensures .1) (m .given .1) in
+    let q = c4 .before .before .before .before .before .path-of in let c5 = c4 .before .before .before .before .before .before .before in let told = c5 .d2 in
+    let n = c5 .before .before .next in let l = c5 .before .before .before .loop in let k = l .inv .0 in let y = heard k (n .ensures .1) (told .given .1) in
     omega (
       arith,
       home-low k y (f .ensures) (i .given .1) (q .ensures) (x .ensures) (e .ensures) (enum-told5 .given .1) (⊎-elim (λ x. may-empty k y (f
@@ -414,8 +414,8 @@ element-copy-out-h c =
     let c3 = c2 .before .before .before .before .before .before in let if2 = c3 .if2 in let d = c3 .before .is-dir in
     let enum-told5 = c3 .before .before .enum-told5 in let e = c3 .before .before .before .before .edit-of in
     let c4 = c3 .before .before .before .before .before .before .before .before in let i = c4 .i in let f = c4 .before .before .find-near in
-    let q = c4 .before .before .before .before .before .path-of in let c5 = c4 .before .before .before .before .before .before .before in let m = c5 .m in
-    let n = c5 .before .before .next in let l = c5 .before .before .before .loop in let k = l .inv .0 in let y = heard k (n .ensures .1) (m .given .1) in
+    let q = c4 .before .before .before .before .before .path-of in let c5 = c4 .before .before .before .before .before .before .before in let told = c5 .d2 in
+    let n = c5 .before .before .next in let l = c5 .before .before .before .loop in let k = l .inv .0 in let y = heard k (n .ensures .1) (told .given .1) in
     home-low k y (f .ensures) (i .given .1) (q .ensures) (x .ensures) (e .ensures) (enum-told5 .given .1) (⊎-elim (λ x. may-empty k y (f .ensures) (i
     .given .1) (q .ensures) (x .1 .ensures) (not-false _ (x .2 .left))) (λ x. may-plain k y (f .ensures) (i .given .1) (q .ensures) (d .ensures) (x
     .left)) (if2 .came)) (removed-is _ _ (w .ensures) (o .ensures)) (h .ensures) (j .given .1)
@@ -427,8 +427,8 @@ cast-h c =
     let x = c2 .extents-after2 in let c3 = c2 .before .before .before .before .before .before in let if2 = c3 .if2 in let d = c3 .before .is-dir in
     let enum-told5 = c3 .before .before .enum-told5 in let e = c3 .before .before .before .before .edit-of in
     let c4 = c3 .before .before .before .before .before .before .before .before in let i = c4 .i in let f = c4 .before .before .find-near in
-    let q = c4 .before .before .before .before .before .path-of in let c5 = c4 .before .before .before .before .before .before .before in let m = c5 .m in
-    let n = c5 .before .before .next in let l = c5 .before .before .before .loop in let k = l .inv .0 in let y = heard k (n .ensures .1) (m .given .1) in
+    let q = c4 .before .before .before .before .before .path-of in let c5 = c4 .before .before .before .before .before .before .before in let told = c5 .d2 in
+    let n = c5 .before .before .next in let l = c5 .before .before .before .loop in let k = l .inv .0 in let y = heard k (n .ensures .1) (told .given .1) in
     omega (
       arith,
       home-slot k y (f .ensures) (i .given .1) (q .ensures) (x .ensures) (e .ensures) (enum-told5 .given .1) (⊎-elim (λ x. may-empty k y (f
@@ -443,8 +443,8 @@ mul-stamped-by c =
     let x = c2 .extents-after2 in let c3 = c2 .before .before .before .before .before .before in let if2 = c3 .if2 in let d = c3 .before .is-dir in
     let enum-told5 = c3 .before .before .enum-told5 in let e = c3 .before .before .before .before .edit-of in
     let c4 = c3 .before .before .before .before .before .before .before .before in let i = c4 .i in let f = c4 .before .before .find-near in
-    let q = c4 .before .before .before .before .before .path-of in let c5 = c4 .before .before .before .before .before .before .before in let m = c5 .m in
-    let n = c5 .before .before .next in let l = c5 .before .before .before .loop in let k = l .inv .0 in let y = heard k (n .ensures .1) (m .given .1) in
+    let q = c4 .before .before .before .before .before .path-of in let c5 = c4 .before .before .before .before .before .before .before in let told = c5 .d2 in
+    let n = c5 .before .before .next in let l = c5 .before .before .before .loop in let k = l .inv .0 in let y = heard k (n .ensures .1) (told .given .1) in
     omega (
       arith,
       home-slot k y (f .ensures) (i .given .1) (q .ensures) (x .ensures) (e .ensures) (enum-told5 .given .1) (⊎-elim (λ x. may-empty k y (f
@@ -459,8 +459,8 @@ element-copy-out-stamped-by c =
     let x = c2 .extents-after2 in let c3 = c2 .before .before .before .before .before .before in let if2 = c3 .if2 in let d = c3 .before .is-dir in
     let enum-told5 = c3 .before .before .enum-told5 in let e = c3 .before .before .before .before .edit-of in
     let c4 = c3 .before .before .before .before .before .before .before .before in let i = c4 .i in let f = c4 .before .before .find-near in
-    let q = c4 .before .before .before .before .before .path-of in let c5 = c4 .before .before .before .before .before .before .before in let m = c5 .m in
-    let n = c5 .before .before .next in let l = c5 .before .before .before .loop in let k = l .inv .0 in let y = heard k (n .ensures .1) (m .given .1) in
+    let q = c4 .before .before .before .before .before .path-of in let c5 = c4 .before .before .before .before .before .before .before in let told = c5 .d2 in
+    let n = c5 .before .before .next in let l = c5 .before .before .before .loop in let k = l .inv .0 in let y = heard k (n .ensures .1) (told .given .1) in
     home-slot k y (f .ensures) (i .given .1) (q .ensures) (x .ensures) (e .ensures) (enum-told5 .given .1) (⊎-elim (λ x. may-empty k y (f .ensures) (i
     .given .1) (q .ensures) (x .1 .ensures) (not-false _ (x .2 .left))) (λ x. may-plain k y (f .ensures) (i .given .1) (q .ensures) (d .ensures) (x
     .left)) (if2 .came)) (removed-is _ _ (w .ensures) (o .ensures)) (h .ensures) (j .given .1)
@@ -473,8 +473,8 @@ mul-t106 c =
     let c3 = c2 .before .before .before .before .before .before in let if2 = c3 .if2 in let d = c3 .before .is-dir in
     let enum-told5 = c3 .before .before .enum-told5 in let e = c3 .before .before .before .before .edit-of in
     let c4 = c3 .before .before .before .before .before .before .before .before in let i = c4 .i in let f = c4 .before .before .find-near in
-    let q = c4 .before .before .before .before .before .path-of in let c5 = c4 .before .before .before .before .before .before .before in let m = c5 .m in
-    let n = c5 .before .before .next in let l = c5 .before .before .before .loop in let k = l .inv .0 in let y = heard k (n .ensures .1) (m .given .1) in
+    let q = c4 .before .before .before .before .before .path-of in let c5 = c4 .before .before .before .before .before .before .before in let told = c5 .d2 in
+    let n = c5 .before .before .next in let l = c5 .before .before .before .loop in let k = l .inv .0 in let y = heard k (n .ensures .1) (told .given .1) in
     omega (
       arith,
       home-slot k y (f .ensures) (i .given .1) (q .ensures) (x .ensures) (e .ensures) (enum-told5 .given .1) (⊎-elim (λ x. may-empty k y (f
@@ -490,8 +490,8 @@ element-set-from-t-2 c =
     let c3 = c2 .before .before .before .before .before .before in let if2 = c3 .if2 in let d = c3 .before .is-dir in
     let enum-told5 = c3 .before .before .enum-told5 in let e = c3 .before .before .before .before .edit-of in
     let c4 = c3 .before .before .before .before .before .before .before .before in let i = c4 .i in let f = c4 .before .before .find-near in
-    let q = c4 .before .before .before .before .before .path-of in let c5 = c4 .before .before .before .before .before .before .before in let m = c5 .m in
-    let n = c5 .before .before .next in let l = c5 .before .before .before .loop in let k = l .inv .0 in let y = heard k (n .ensures .1) (m .given .1) in
+    let q = c4 .before .before .before .before .before .path-of in let c5 = c4 .before .before .before .before .before .before .before in let told = c5 .d2 in
+    let n = c5 .before .before .next in let l = c5 .before .before .before .loop in let k = l .inv .0 in let y = heard k (n .ensures .1) (told .given .1) in
     home-slot k y (f .ensures) (i .given .1) (q .ensures) (x .ensures) (e .ensures) (enum-told5 .given .1) (⊎-elim (λ x. may-empty k y (f .ensures) (i
     .given .1) (q .ensures) (x .1 .ensures) (not-false _ (x .2 .left))) (λ x. may-plain k y (f .ensures) (i .given .1) (q .ensures) (d .ensures) (x
     .left)) (if2 .came)) (removed-is _ _ (w .ensures) (o .ensures)) (h .ensures) (j .given .1)
@@ -499,8 +499,8 @@ element-set-from-t-2 c =
 loop-less-6 : tie.Need-loop-less-6 Inv-loop μ-loop
 loop-less-6 c =
     let c1 = c .before .before .before .before .before .before .before .before .before .before .before .before .before .before .before .before .before .before .before .before .before .before .before .before .before .before .before .before .before .before .before .before .before .before .before .before .before in
-    let m = c1 .m in let n = c1 .before .before .next in let l = c1 .before .before .before .loop in let k = l .inv .0 in
-    let y = heard k (n .ensures .1) (m .given .1) in
+    let told = c1 .d2 in let n = c1 .before .before .next in let l = c1 .before .before .before .loop in let k = l .inv .0 in
+    let y = heard k (n .ensures .1) (told .given .1) in
     y .next .less
 
 loop-again-6 : tie.Need-loop-again-6 Inv-loop μ-loop
@@ -511,8 +511,8 @@ loop-again-6 c =
     let c3 = c2 .before .before .before .before .before .before .before .before .before in let if2 = c3 .if2 in let d = c3 .before .is-dir in
     let enum-told5 = c3 .before .before .enum-told5 in let e = c3 .before .before .before .before .edit-of in
     let c4 = c3 .before .before .before .before .before .before .before .before in let i = c4 .i in let f = c4 .before .before .find-near in
-    let q = c4 .before .before .before .before .before .path-of in let c5 = c4 .before .before .before .before .before .before .before in let m = c5 .m in
-    let n = c5 .before .before .next in let l = c5 .before .before .before .loop in let k = l .inv .0 in let y = heard k (n .ensures .1) (m .given .1) in (
+    let q = c4 .before .before .before .before .before .path-of in let c5 = c4 .before .before .before .before .before .before .before in let told = c5 .d2 in
+    let n = c5 .before .before .next in let l = c5 .before .before .before .loop in let k = l .inv .0 in let y = heard k (n .ensures .1) (told .given .1) in (
       at-stamped k y (f .ensures) (i .given .1) (q .ensures) (x .ensures) (e .ensures) (enum-told5 .given .1) (⊎-elim (λ x. may-empty k y (f .ensures) (i
           .given .1) (q .ensures) (x .1 .ensures) (not-false _ (x .2 .left))) (λ x. may-plain k y (f .ensures) (i .given .1) (q .ensures) (d .ensures) (x
           .left)) (if2 .came)) (removed-is _ _ (w .ensures) (o .ensures)) (h .ensures) (j .given .1) (r .ensures) (omega arith),
@@ -529,22 +529,22 @@ add-ignored-3 c =
 
 loop-less-7 : tie.Need-loop-less-7 Inv-loop μ-loop
 loop-less-7 c =
-    let c1 = c .before .before .before .before .before .before .before .before .before .before .before in let m = c1 .m in let n = c1 .before .before .next in
-    let l = c1 .before .before .before .loop in let k = l .inv .0 in let y = heard k (n .ensures .1) (m .given .1) in
+    let c1 = c .before .before .before .before .before .before .before .before .before .before .before in let told = c1 .d2 in let n = c1 .before .before .next in
+    let l = c1 .before .before .before .loop in let k = l .inv .0 in let y = heard k (n .ensures .1) (told .given .1) in
     y .next .less
 
 loop-again-7 : tie.Need-loop-again-7 Inv-loop μ-loop
 loop-again-7 c =
     let enum-told7 = c .enum-told7 in let b = c .before .before .made-by in let j = c .before .before .before .before .j2 in
     let c1 = c .before .before .before .before .before .before in let f = c1 .find-near in let q = c1 .before .before .before .path-of in
-    let m = c1 .before .before .before .before .before .m in let c2 = c1 .before .before .before .before .before .before .before in let n = c2 .next in
-    let l = c2 .before .loop in let k = l .inv .0 in let y = heard k (n .ensures .1) (m .given .1) in
+    let told = c1 .before .before .before .before .before .d2 in let c2 = c1 .before .before .before .before .before .before .before in let n = c2 .next in
+    let l = c2 .before .loop in let k = l .inv .0 in let y = heard k (n .ensures .1) (told .given .1) in
     (gap-ignored k y (f .ensures) (j .given .1) (q .ensures) (b .ensures) (enum-told7 .given .1) (omega arith), l .inv .1, l .inv .2)
 
 find-requires-2 : tie.Need-find-requires-2 Inv-loop μ-loop
 find-requires-2 c κs =
-    let c1 = c .before .before .before .before .before .before .before .before .before .before .before .before .before .before in let m = c1 .m in
-    let n = c1 .before .before .next in let l = c1 .before .before .before .loop in let k = l .inv .0 in let y = heard k (n .ensures .1) (m .given .1) in
+    let c1 = c .before .before .before .before .before .before .before .before .before .before .before .before .before .before in let told = c1 .d2 in
+    let n = c1 .before .before .next in let l = c1 .before .before .before .loop in let k = l .inv .0 in let y = heard k (n .ensures .1) (told .given .1) in
     may-find k y
 
 add-ignored-4 : tie.Need-add-ignored-4 Inv-loop μ-loop
@@ -557,17 +557,17 @@ add-ignored-4 c =
 loop-less-8 : tie.Need-loop-less-8 Inv-loop μ-loop
 loop-less-8 c =
     let c1 = c .before .before .before .before .before .before .before .before .before .before .before .before .before .before .before .before .before in
-    let m = c1 .m in let n = c1 .before .before .next in let l = c1 .before .before .before .loop in let k = l .inv .0 in
-    let y = heard k (n .ensures .1) (m .given .1) in
+    let told = c1 .d2 in let n = c1 .before .before .next in let l = c1 .before .before .before .loop in let k = l .inv .0 in
+    let y = heard k (n .ensures .1) (told .given .1) in
     y .next .less
 
 loop-again-8 : tie.Need-loop-again-8 Inv-loop μ-loop
 loop-again-8 c =
     let enum-told8 = c .enum-told8 in let h = c .before .before .find2 in let c1 = c .before .before .before .before .before .before in let p = c1 .q in
     let b = c1 .before .before .made-by in let j = c1 .before .before .before .before .j2 in let c2 = c1 .before .before .before .before .before .before in
-    let f = c2 .find-near in let q = c2 .before .before .before .path-of in let m = c2 .before .before .before .before .before .m in
+    let f = c2 .find-near in let q = c2 .before .before .before .path-of in let told = c2 .before .before .before .before .before .d2 in
     let c3 = c2 .before .before .before .before .before .before .before in let n = c3 .next in let l = c3 .before .loop in let k = l .inv .0 in
-    let y = heard k (n .ensures .1) (m .given .1) in (
+    let y = heard k (n .ensures .1) (told .given .1) in (
       gap-orphan k y (f .ensures) (j .given .1) (q .ensures) (b .ensures) (p .given .1) (h .ensures) (enum-told8 .given .1) (omega arith),
       l .inv .1,
       l
@@ -578,18 +578,18 @@ mul-h-2 : tie.Need-mul-h-2 Inv-loop μ-loop
 mul-h-2 c =
     let u = c .before .k in let h = c .before .before .before .find2 in let c1 = c .before .before .before .before .before .before .before in let p = c1 .q in
     let b = c1 .before .before .made-by in let j = c1 .before .before .before .before .j2 in let c2 = c1 .before .before .before .before .before .before in
-    let f = c2 .find-near in let q = c2 .before .before .before .path-of in let m = c2 .before .before .before .before .before .m in
+    let f = c2 .find-near in let q = c2 .before .before .before .path-of in let told = c2 .before .before .before .before .before .d2 in
     let c3 = c2 .before .before .before .before .before .before .before in let n = c3 .next in let l = c3 .before .loop in let k = l .inv .0 in
-    let y = heard k (n .ensures .1) (m .given .1) in
+    let y = heard k (n .ensures .1) (told .given .1) in
     omega (arith, parent-low k y (f .ensures) (j .given .1) (q .ensures) (b .ensures) (p .given .1) (h .ensures) (u .given .1))
 
 element-copy-out-h-2 : tie.Need-element-copy-out-h-2 Inv-loop μ-loop
 element-copy-out-h-2 c =
     let u = c .before .k in let h = c .before .before .before .find2 in let c1 = c .before .before .before .before .before .before .before in let p = c1 .q in
     let b = c1 .before .before .made-by in let j = c1 .before .before .before .before .j2 in let c2 = c1 .before .before .before .before .before .before in
-    let f = c2 .find-near in let q = c2 .before .before .before .path-of in let m = c2 .before .before .before .before .before .m in
+    let f = c2 .find-near in let q = c2 .before .before .before .path-of in let told = c2 .before .before .before .before .before .d2 in
     let c3 = c2 .before .before .before .before .before .before .before in let n = c3 .next in let l = c3 .before .loop in let k = l .inv .0 in
-    let y = heard k (n .ensures .1) (m .given .1) in
+    let y = heard k (n .ensures .1) (told .given .1) in
     parent-low k y (f .ensures) (j .given .1) (q .ensures) (b .ensures) (p .given .1) (h .ensures) (u .given .1)
 
 cast-h-2 : tie.Need-cast-h-2 Inv-loop μ-loop
@@ -597,9 +597,9 @@ cast-h-2 c =
     let u = c .before .before .k in let h = c .before .before .before .before .find2 in
     let c1 = c .before .before .before .before .before .before .before .before in let p = c1 .q in let b = c1 .before .before .made-by in
     let j = c1 .before .before .before .before .j2 in let c2 = c1 .before .before .before .before .before .before in let f = c2 .find-near in
-    let q = c2 .before .before .before .path-of in let m = c2 .before .before .before .before .before .m in
+    let q = c2 .before .before .before .path-of in let told = c2 .before .before .before .before .before .d2 in
     let c3 = c2 .before .before .before .before .before .before .before in let n = c3 .next in let l = c3 .before .loop in let k = l .inv .0 in
-    let y = heard k (n .ensures .1) (m .given .1) in
+    let y = heard k (n .ensures .1) (told .given .1) in
     omega (arith, parent-slot k y (f .ensures) (j .given .1) (q .ensures) (b .ensures) (p .given .1) (h .ensures) (u .given .1))
 
 mul-parent : tie.Need-mul-parent Inv-loop μ-loop
@@ -607,9 +607,9 @@ mul-parent c =
     let u = c .before .before .k in let h = c .before .before .before .before .find2 in
     let c1 = c .before .before .before .before .before .before .before .before in let p = c1 .q in let b = c1 .before .before .made-by in
     let j = c1 .before .before .before .before .j2 in let c2 = c1 .before .before .before .before .before .before in let f = c2 .find-near in
-    let q = c2 .before .before .before .path-of in let m = c2 .before .before .before .before .before .m in
+    let q = c2 .before .before .before .path-of in let told = c2 .before .before .before .before .before .d2 in
     let c3 = c2 .before .before .before .before .before .before .before in let n = c3 .next in let l = c3 .before .loop in let k = l .inv .0 in
-    let y = heard k (n .ensures .1) (m .given .1) in
+    let y = heard k (n .ensures .1) (told .given .1) in
     omega (arith, parent-slot k y (f .ensures) (j .given .1) (q .ensures) (b .ensures) (p .given .1) (h .ensures) (u .given .1))
 
 element-copy-out-parent : tie.Need-element-copy-out-parent Inv-loop μ-loop
@@ -617,9 +617,9 @@ element-copy-out-parent c =
     let u = c .before .before .k in let h = c .before .before .before .before .find2 in
     let c1 = c .before .before .before .before .before .before .before .before in let p = c1 .q in let b = c1 .before .before .made-by in
     let j = c1 .before .before .before .before .j2 in let c2 = c1 .before .before .before .before .before .before in let f = c2 .find-near in
-    let q = c2 .before .before .before .path-of in let m = c2 .before .before .before .before .before .m in
+    let q = c2 .before .before .before .path-of in let told = c2 .before .before .before .before .before .d2 in
     let c3 = c2 .before .before .before .before .before .before .before in let n = c3 .next in let l = c3 .before .loop in let k = l .inv .0 in
-    let y = heard k (n .ensures .1) (m .given .1) in
+    let y = heard k (n .ensures .1) (told .given .1) in
     parent-slot k y (f .ensures) (j .given .1) (q .ensures) (b .ensures) (p .given .1) (h .ensures) (u .given .1)
 
 add-ignored-5 : tie.Need-add-ignored-5 Inv-loop μ-loop
@@ -632,8 +632,8 @@ add-ignored-5 c =
 loop-less-9 : tie.Need-loop-less-9 Inv-loop μ-loop
 loop-less-9 c =
     let c1 = c .before .before .before .before .before .before .before .before .before .before .before .before .before .before .before .before .before .before .before .before .before .before in
-    let m = c1 .m in let n = c1 .before .before .next in let l = c1 .before .before .before .loop in let k = l .inv .0 in
-    let y = heard k (n .ensures .1) (m .given .1) in
+    let told = c1 .d2 in let n = c1 .before .before .next in let l = c1 .before .before .before .loop in let k = l .inv .0 in
+    let y = heard k (n .ensures .1) (told .given .1) in
     y .next .less
 
 loop-again-9 : tie.Need-loop-again-9 Inv-loop μ-loop
@@ -642,8 +642,8 @@ loop-again-9 c =
     let c1 = c .before .before .before .before .before .before .before in let h = c1 .find2 in let p = c1 .before .before .before .before .q in
     let c2 = c1 .before .before .before .before .before .before in let b = c2 .made-by in let j = c2 .before .before .j2 in
     let f = c2 .before .before .before .before .find-near in let c3 = c2 .before .before .before .before .before .before .before in let q = c3 .path-of in
-    let m = c3 .before .before .m in let n = c3 .before .before .before .before .next in let l = c3 .before .before .before .before .before .loop in
-    let k = l .inv .0 in let y = heard k (n .ensures .1) (m .given .1) in (
+    let told = c3 .before .before .d2 in let n = c3 .before .before .before .before .next in let l = c3 .before .before .before .before .before .loop in
+    let k = l .inv .0 in let y = heard k (n .ensures .1) (told .given .1) in (
       gap-plain k y (f .ensures) (j .given .1) (q .ensures) (b .ensures) (p .given .1) (h .ensures) (u .given .1) (d .ensures) (not-true _ (if4 .taken))
           (omega arith),
       l .inv .1,
@@ -674,9 +674,9 @@ returns-5 c =
     let if5 = c .if5 in let if4 = c .before .if4 in let d = c .before .before .is-dir2 in let c1 = c .before .before .before .before .before .before in
     let u = c1 .k in let h = c1 .before .before .find2 in let c2 = c1 .before .before .before .before .before .before in let p = c2 .q in
     let b = c2 .before .before .made-by in let j = c2 .before .before .before .before .j2 in let c3 = c2 .before .before .before .before .before .before in
-    let f = c3 .find-near in let q = c3 .before .before .before .path-of in let m = c3 .before .before .before .before .before .m in
+    let f = c3 .find-near in let q = c3 .before .before .before .path-of in let told = c3 .before .before .before .before .before .d2 in
     let c4 = c3 .before .before .before .before .before .before .before in let n = c4 .next in let l = c4 .before .loop in let k = l .inv .0 in
-    let y = heard k (n .ensures .1) (m .given .1) in (
+    let y = heard k (n .ensures .1) (told .given .1) in (
       gap-full k y (f .ensures) (j .given .1) (q .ensures) (b .ensures) (p .given .1) (h .ensures) (u .given .1) (d .ensures) (not-false _ (if4 .left))
           (omega (arith, if5 .taken)),
       tt,
@@ -687,8 +687,8 @@ open-key-requires c κs =
     let if5 = c .before .if5 in
     let c1 = c .before .before .before .before .before .before .before .before .before .before .before .before .before .before .before .before .before in
     let j = c1 .j2 in let f = c1 .before .before .find-near in let q = c1 .before .before .before .before .before .path-of in
-    let c2 = c1 .before .before .before .before .before .before .before in let m = c2 .m in let n = c2 .before .before .next in
-    let l = c2 .before .before .before .loop in let k = l .inv .0 in let y = heard k (n .ensures .1) (m .given .1) in
+    let c2 = c1 .before .before .before .before .before .before .before in let told = c2 .d2 in let n = c2 .before .before .next in
+    let l = c2 .before .before .before .loop in let k = l .inv .0 in let y = heard k (n .ensures .1) (told .given .1) in
     (gap-low k y (f .ensures) (j .given .1) (q .ensures), ((omega (arith, k .held .kept .few, if5 .left)), k .held .kept .keys-len))
 
 open-slot-requires : tie.Need-open-slot-requires Inv-loop μ-loop
@@ -696,8 +696,8 @@ open-slot-requires c κs =
     let if5 = c .before .before .before .if5 in
     let c1 = c .before .before .before .before .before .before .before .before .before .before .before .before .before .before .before .before .before .before .before in
     let j = c1 .j2 in let f = c1 .before .before .find-near in let q = c1 .before .before .before .before .before .path-of in
-    let c2 = c1 .before .before .before .before .before .before .before in let m = c2 .m in let n = c2 .before .before .next in
-    let l = c2 .before .before .before .loop in let k = l .inv .0 in let y = heard k (n .ensures .1) (m .given .1) in
+    let c2 = c1 .before .before .before .before .before .before .before in let told = c2 .d2 in let n = c2 .before .before .next in
+    let l = c2 .before .before .before .loop in let k = l .inv .0 in let y = heard k (n .ensures .1) (told .given .1) in
     (gap-low k y (f .ensures) (j .given .1) (q .ensures), ((omega (arith, k .held .kept .few, if5 .left)), k .held .kept .slots-len))
 
 fresh-requires-2 : tie.Need-fresh-requires-2 Inv-loop μ-loop
@@ -707,8 +707,8 @@ fresh-requires-2 c κs =
     let c2 = c1 .before .before .before .before .before .before .before in let h = c2 .find2 in let p = c2 .before .before .before .before .q in
     let c3 = c2 .before .before .before .before .before .before in let b = c3 .made-by in let j = c3 .before .before .j2 in
     let f = c3 .before .before .before .before .find-near in let c4 = c3 .before .before .before .before .before .before .before in let q = c4 .path-of in
-    let m = c4 .before .before .m in let n = c4 .before .before .before .before .next in let l = c4 .before .before .before .before .before .loop in
-    let k = l .inv .0 in let y = heard k (n .ensures .1) (m .given .1) in
+    let told = c4 .before .before .d2 in let n = c4 .before .before .before .before .next in let l = c4 .before .before .before .before .before .loop in
+    let k = l .inv .0 in let y = heard k (n .ensures .1) (told .given .1) in
     gap-free k y (f .ensures) (j .given .1) (q .ensures) (b .ensures) (p .given .1) (h .ensures) (u .given .1) (d .ensures) (not-false _ (if4 .left))
     (omega (arith, k .held .kept .few, if5 .left)) (o .ensures .0) .0
 
@@ -718,9 +718,9 @@ mul-q c =
     let if4 = c1 .before .if4 in let d = c1 .before .before .is-dir2 in let c2 = c1 .before .before .before .before .before .before in let u = c2 .k in
     let h = c2 .before .before .find2 in let c3 = c2 .before .before .before .before .before .before in let p = c3 .q in let b = c3 .before .before .made-by in
     let j = c3 .before .before .before .before .j2 in let c4 = c3 .before .before .before .before .before .before in let f = c4 .find-near in
-    let q = c4 .before .before .before .path-of in let m = c4 .before .before .before .before .before .m in
+    let q = c4 .before .before .before .path-of in let told = c4 .before .before .before .before .before .d2 in
     let c5 = c4 .before .before .before .before .before .before .before in let n = c5 .next in let l = c5 .before .loop in let k = l .inv .0 in
-    let y = heard k (n .ensures .1) (m .given .1) in
+    let y = heard k (n .ensures .1) (told .given .1) in
     omega (
       arith,
       gap-free k y (f .ensures) (j .given .1) (q .ensures) (b .ensures) (p .given .1) (h .ensures) (u .given .1) (d .ensures) (not-false _
@@ -733,9 +733,9 @@ element-set-from-q c =
     let if4 = c1 .before .if4 in let d = c1 .before .before .is-dir2 in let c2 = c1 .before .before .before .before .before .before in let u = c2 .k in
     let h = c2 .before .before .find2 in let c3 = c2 .before .before .before .before .before .before in let p = c3 .q in let b = c3 .before .before .made-by in
     let j = c3 .before .before .before .before .j2 in let c4 = c3 .before .before .before .before .before .before in let f = c4 .find-near in
-    let q = c4 .before .before .before .path-of in let m = c4 .before .before .before .before .before .m in
+    let q = c4 .before .before .before .path-of in let told = c4 .before .before .before .before .before .d2 in
     let c5 = c4 .before .before .before .before .before .before .before in let n = c5 .next in let l = c5 .before .loop in let k = l .inv .0 in
-    let y = heard k (n .ensures .1) (m .given .1) in
+    let y = heard k (n .ensures .1) (told .given .1) in
     gap-free k y (f .ensures) (j .given .1) (q .ensures) (b .ensures) (p .given .1) (h .ensures) (u .given .1) (d .ensures) (not-false _ (if4 .left))
     (omega (arith, k .held .kept .few, if5 .left)) (o .ensures .0) .1
 
@@ -755,8 +755,8 @@ add-applied-3 c =
 loop-less-10 : tie.Need-loop-less-10 Inv-loop μ-loop
 loop-less-10 c =
     let c1 = c .before .before .before .before .before .before .before .before .before .before .before .before .before .before .before .before .before .before .before .before .before .before .before .before .before .before .before .before .before .before in
-    let m = c1 .m in let n = c1 .before .before .next in let l = c1 .before .before .before .loop in let k = l .inv .0 in
-    let y = heard k (n .ensures .1) (m .given .1) in
+    let told = c1 .d2 in let n = c1 .before .before .next in let l = c1 .before .before .before .loop in let k = l .inv .0 in
+    let y = heard k (n .ensures .1) (told .given .1) in
     y .next .less
 
 loop-again-10 : tie.Need-loop-again-10 Inv-loop μ-loop
@@ -766,9 +766,9 @@ loop-again-10 c =
     let d = c1 .before .before .is-dir2 in let c2 = c1 .before .before .before .before .before .before in let u = c2 .k in let h = c2 .before .before .find2 in
     let c3 = c2 .before .before .before .before .before .before in let p = c3 .q in let b = c3 .before .before .made-by in
     let j = c3 .before .before .before .before .j2 in let c4 = c3 .before .before .before .before .before .before in let f = c4 .find-near in
-    let q = c4 .before .before .before .path-of in let m = c4 .before .before .before .before .before .m in
+    let q = c4 .before .before .before .path-of in let told = c4 .before .before .before .before .before .d2 in
     let c5 = c4 .before .before .before .before .before .before .before in let n = c5 .next in let l = c5 .before .loop in let k = l .inv .0 in
-    let y = heard k (n .ensures .1) (m .given .1) in (
+    let y = heard k (n .ensures .1) (told .given .1) in (
       gap-opened k y (f .ensures) (j .given .1) (q .ensures) (b .ensures) (p .given .1) (h .ensures) (u .given .1) (d .ensures) (not-false _ (if4 .left))
           (omega (arith, k .held .kept .few, if5 .left)) (o .ensures .0) (w .ensures) (o .ensures .1) (z .ensures) (omega arith),
       l .inv .1,
@@ -785,7 +785,7 @@ replay-spec =
     (λ c. search needs)
     (λ c. search needs)
     fresh-requires
-    begin-requires
+    first-requires
     (λ c. search needs)
     (λ c. search needs)
     (λ c. search needs)
