@@ -100,7 +100,7 @@ pub fn move_rows(rows: &mut [[u32; 4]], n: usize, q: usize, m: usize)
 }
 
 // How many of the first n rows start before key. Each turn halves what is left whatever the row says, so no turn waits on a guess.
-pub fn below(rows: &[[u32; 4]], n: usize, key: u64) -> usize
+fn below_by_halves(rows: &[[u32; 4]], n: usize, key: u64) -> usize
     requires { ⌜ (n ≤ length (now rows)) × Within 0 (2 ^ 64) (take n (now rows)) ⌝ }
     ensures { λ r. ⌜ Split key (runs (now (rows .entry)) n) r ⌝ }
 {
@@ -115,6 +115,21 @@ pub fn below(rows: &[[u32; 4]], n: usize, key: u64) -> usize
         }
     }
     lo
+}
+
+// The same. Most runs are laid past the last row, so that one is looked at first.
+pub fn below(rows: &[[u32; 4]], n: usize, key: u64) -> usize
+    requires { ⌜ (n ≤ length (now rows)) × Within 0 (2 ^ 64) (take n (now rows)) ⌝ }
+    ensures { λ r. ⌜ Split key (runs (now (rows .entry)) n) r ⌝ }
+{
+    if n == 0 {
+        return 0;
+    }
+    let last = rows[n - 1];
+    if start_of(last) < key {
+        return n;
+    }
+    below_by_halves(rows, n, key)
 }
 
 // The same where the first p do: a run ends a few rows after it starts, so one by one.
