@@ -21,6 +21,8 @@ use meaning::Refusal;
 use tree::Found;
 use tree::Tree;
 
+mod near;
+
 /// How the replay ended: at the log's end, or with 7, 8 or 9.
 pub enum Said {
     Whole,
@@ -57,7 +59,7 @@ pub fn replay(
     let mut applied: u64 = 0;
     let mut ignored: u64 = 0;
     // Where a path stood last, by its low bits: a guess that is tested before it is used.
-    let mut near = [0u32; 256];
+    let mut near = [0u8; 1024];
     let Start::At(first) = log::first(g, tags, paths, contents, p) else {
         return Replayed {
             tree: t,
@@ -95,10 +97,11 @@ pub fn replay(
                 c = d;
                 let n = t.count;
                 let path = change::path_of(m);
-                let low = (path % 256) as usize;
+                let low = (path % 1024) as usize;
                 match tree::find_near(&t.keys, n, path, near[low]) {
                     Found::At(i) => {
-                        near[low] = i as u32;
+                        let at = i as u8;
+                        near[low] = at;
                         let s = t.slots[i] as usize;
                         let f = t.records[s];
                         match change::edit_of(m, f) {
@@ -147,6 +150,7 @@ pub fn replay(
                                 );
                                 tree::close_key(&mut t.keys, n, i);
                                 tree::close_slot(&mut t.slots, n, i);
+                                near::shift_down(&mut near, at);
                                 t.count = n - 1;
                                 applied += 1;
                                 let Found::At(j) = tree::find(&t.keys, n - 1, f.parent) else {
@@ -183,6 +187,9 @@ pub fn replay(
                         }
                         tree::open_key(&mut t.keys, n, j, q.path);
                         let s = tree::open_slot(&mut t.slots, n, j) as usize;
+                        let at = j as u8;
+                        near::shift_up(&mut near, at);
+                        near[low] = at;
                         runs::fresh(spans, s);
                         t.records[s] = q;
                         t.count = n + 1;

@@ -36,7 +36,7 @@ pub fn find(keys: &[u32; 256], n: usize, path: u32) -> Found
 
 /// The same, looked for first at a place where it may stand. A search costs a wrong guess of the processor at most of its turns; a
 /// path found at once costs none.
-pub fn find_near(keys: &[u32; 256], n: usize, path: u32, near: u32) -> Found
+pub fn find_near(keys: &[u32; 256], n: usize, path: u32, near: u8) -> Found
     requires { ⌜ n ≤ 256 ⌝ }
     requires { ⌜ Rising (now keys) n ⌝ }
     ensures { λ r. ⌜ Stands (now (keys .entry)) n path r ⌝ }

@@ -115,8 +115,8 @@ find-near-requires c κs =
     let l = c1 .before .loop in let k = l .inv .0 in let y = heard k (n .ensures .1) (told .given .1) in
     may-find k y
 
-cast-near : tie.Need-cast-near Inv-loop μ-loop
-cast-near c =
+cast-at : tie.Need-cast-at Inv-loop μ-loop
+cast-at c =
     let i = c .before .i in let f = c .before .before .before .find-near in let c1 = c .before .before .before .before .before .before in let q = c1 .path-of in
     let told = c1 .before .before .d2 in let n = c1 .before .before .before .before .next in let l = c1 .before .before .before .before .before .loop in
     let k = l .inv .0 in let y = heard k (n .ensures .1) (told .given .1) in
@@ -228,8 +228,8 @@ revised-requires c κs =
     let y = heard k (n .ensures .1) (told .given .1) in
     y .ranged
 
-mul-t79 : tie.Need-mul-t79 Inv-loop μ-loop
-mul-t79 c =
+mul-t81 : tie.Need-mul-t81 Inv-loop μ-loop
+mul-t81 c =
     let c1 = c .before .before .before .before .before .before .before .before .before .before .before .before .before .before .before .before .before .before in
     let i = c1 .i in let f = c1 .before .before .find-near in let q = c1 .before .before .before .before .before .path-of in
     let c2 = c1 .before .before .before .before .before .before .before in let told = c2 .d2 in let n = c2 .before .before .next in
@@ -332,7 +332,7 @@ close-slot-requires c κs =
 
 sub-t : tie.Need-sub-t Inv-loop μ-loop
 sub-t c =
-    let c1 = c .before .before .before .before .before .before .before .before .before .before .before .before .before .before .before .before .before .before .before .before .before in
+    let c1 = c .before .before .before .before .before .before .before .before .before .before .before .before .before .before .before .before .before .before .before .before .before .before .before in
     let i = c1 .i in let f = c1 .before .before .find-near in let q = c1 .before .before .before .before .before .path-of in
     let c2 = c1 .before .before .before .before .before .before .before in let told = c2 .d2 in let n = c2 .before .before .next in
     let l = c2 .before .before .before .loop in let k = l .inv .0 in let y = heard k (n .ensures .1) (told .given .1) in
@@ -340,14 +340,14 @@ sub-t c =
 
 add-applied-2 : tie.Need-add-applied-2 Inv-loop μ-loop
 add-applied-2 c =
-    let c1 = c .before .before .before .before .before .before .before .before .before .before .before .before .before .before .before .before .before .before .before .before .before .before .before .before .before .before .before .before .before .before .before in
+    let c1 = c .before .before .before .before .before .before .before .before .before .before .before .before .before .before .before .before .before .before .before .before .before .before .before .before .before .before .before .before .before .before .before .before .before in
     let l = c1 .loop in let s = c1 .before .before .before .before .before .before .before .before .before .before .before .before .before in
     let k = l .inv .0 in
     omega (arith, sums-low _ _ _ (s .pre .0) _ _ _ (k .counts) .0)
 
 sub-find : tie.Need-sub-find Inv-loop μ-loop
 sub-find c =
-    let c1 = c .before .before .before .before .before .before .before .before .before .before .before .before .before .before .before .before .before .before .before .before .before .before .before in
+    let c1 = c .before .before .before .before .before .before .before .before .before .before .before .before .before .before .before .before .before .before .before .before .before .before .before .before .before in
     let i = c1 .i in let f = c1 .before .before .find-near in let q = c1 .before .before .before .before .before .path-of in
     let c2 = c1 .before .before .before .before .before .before .before in let told = c2 .d2 in let n = c2 .before .before .next in
     let l = c2 .before .before .before .loop in let k = l .inv .0 in let y = heard k (n .ensures .1) (told .given .1) in
@@ -355,8 +355,8 @@ sub-find c =
 
 find-requires : tie.Need-find-requires Inv-loop μ-loop
 find-requires c κs =
-    let o = c .before .before .close-slot in let w = c .before .before .before .before .close-key in
-    let c1 = c .before .before .before .before .before .before .before .before .before in let x = c1 .extents-after2 in
+    let o = c .before .before .before .before .close-slot in let w = c .before .before .before .before .before .before .close-key in
+    let c1 = c .before .before .before .before .before .before .before .before .before .before .before in let x = c1 .extents-after2 in
     let c2 = c1 .before .before .before .before .before .before in let if2 = c2 .if2 in let d = c2 .before .is-dir in
     let enum-told5 = c2 .before .before .enum-told5 in let e = c2 .before .before .before .before .edit-of in
     let c3 = c2 .before .before .before .before .before .before .before .before in let i = c3 .i in let f = c3 .before .before .find-near in
@@ -368,15 +368,15 @@ find-requires c κs =
 
 loop-less-5 : tie.Need-loop-less-5 Inv-loop μ-loop
 loop-less-5 c =
-    let c1 = c .before .before .before .before .before .before .before .before .before .before .before .before .before .before .before .before .before .before .before .before .before .before .before .before .before .before .before .before .before .before .before .before .before in
+    let c1 = c .before .before .before .before .before .before .before .before .before .before .before .before .before .before .before .before .before .before .before .before .before .before .before .before .before .before .before .before .before .before .before .before .before .before .before in
     let told = c1 .d2 in let n = c1 .before .before .next in let l = c1 .before .before .before .loop in let k = l .inv .0 in
     let y = heard k (n .ensures .1) (told .given .1) in
     y .next .less
 
 loop-again-5 : tie.Need-loop-again-5 Inv-loop μ-loop
 loop-again-5 c =
-    let enum-told6 = c .enum-told6 in let h = c .before .before .find in let o = c .before .before .before .before .before .close-slot in
-    let c1 = c .before .before .before .before .before .before .before in let w = c1 .close-key in let a = c1 .before .before .scratch2 in
+    let enum-told6 = c .enum-told6 in let h = c .before .before .find in let o = c .before .before .before .before .before .before .before .close-slot in
+    let c1 = c .before .before .before .before .before .before .before .before .before in let w = c1 .close-key in let a = c1 .before .before .scratch2 in
     let x = c1 .before .before .before .before .before .extents-after2 in
     let c2 = c1 .before .before .before .before .before .before .before .before .before .before .before in let if2 = c2 .if2 in let d = c2 .before .is-dir in
     let enum-told5 = c2 .before .before .enum-told5 in let e = c2 .before .before .before .before .edit-of in
@@ -393,7 +393,7 @@ loop-again-5 c =
 
 mul-h : tie.Need-mul-h Inv-loop μ-loop
 mul-h c =
-    let j = c .before .j in let h = c .before .before .before .find in let c1 = c .before .before .before .before .before .before in let o = c1 .close-slot in
+    let j = c .before .j in let h = c .before .before .before .find in let c1 = c .before .before .before .before .before .before .before .before in let o = c1 .close-slot in
     let w = c1 .before .before .close-key in let c2 = c1 .before .before .before .before .before .before .before in let x = c2 .extents-after2 in
     let c3 = c2 .before .before .before .before .before .before in let if2 = c3 .if2 in let d = c3 .before .is-dir in
     let enum-told5 = c3 .before .before .enum-told5 in let e = c3 .before .before .before .before .edit-of in
@@ -409,7 +409,7 @@ mul-h c =
 
 element-copy-out-h : tie.Need-element-copy-out-h Inv-loop μ-loop
 element-copy-out-h c =
-    let j = c .before .j in let h = c .before .before .before .find in let c1 = c .before .before .before .before .before .before in let o = c1 .close-slot in
+    let j = c .before .j in let h = c .before .before .before .find in let c1 = c .before .before .before .before .before .before .before .before in let o = c1 .close-slot in
     let w = c1 .before .before .close-key in let c2 = c1 .before .before .before .before .before .before .before in let x = c2 .extents-after2 in
     let c3 = c2 .before .before .before .before .before .before in let if2 = c3 .if2 in let d = c3 .before .is-dir in
     let enum-told5 = c3 .before .before .enum-told5 in let e = c3 .before .before .before .before .edit-of in
@@ -422,7 +422,7 @@ element-copy-out-h c =
 
 cast-h : tie.Need-cast-h Inv-loop μ-loop
 cast-h c =
-    let j = c .before .before .j in let h = c .before .before .before .before .find in let c1 = c .before .before .before .before .before .before .before in
+    let j = c .before .before .j in let h = c .before .before .before .before .find in let c1 = c .before .before .before .before .before .before .before .before .before in
     let o = c1 .close-slot in let w = c1 .before .before .close-key in let c2 = c1 .before .before .before .before .before .before .before in
     let x = c2 .extents-after2 in let c3 = c2 .before .before .before .before .before .before in let if2 = c3 .if2 in let d = c3 .before .is-dir in
     let enum-told5 = c3 .before .before .enum-told5 in let e = c3 .before .before .before .before .edit-of in
@@ -438,7 +438,7 @@ cast-h c =
 
 mul-stamped-by : tie.Need-mul-stamped-by Inv-loop μ-loop
 mul-stamped-by c =
-    let j = c .before .before .j in let h = c .before .before .before .before .find in let c1 = c .before .before .before .before .before .before .before in
+    let j = c .before .before .j in let h = c .before .before .before .before .find in let c1 = c .before .before .before .before .before .before .before .before .before in
     let o = c1 .close-slot in let w = c1 .before .before .close-key in let c2 = c1 .before .before .before .before .before .before .before in
     let x = c2 .extents-after2 in let c3 = c2 .before .before .before .before .before .before in let if2 = c3 .if2 in let d = c3 .before .is-dir in
     let enum-told5 = c3 .before .before .enum-told5 in let e = c3 .before .before .before .before .edit-of in
@@ -454,7 +454,7 @@ mul-stamped-by c =
 
 element-copy-out-stamped-by : tie.Need-element-copy-out-stamped-by Inv-loop μ-loop
 element-copy-out-stamped-by c =
-    let j = c .before .before .j in let h = c .before .before .before .before .find in let c1 = c .before .before .before .before .before .before .before in
+    let j = c .before .before .j in let h = c .before .before .before .before .find in let c1 = c .before .before .before .before .before .before .before .before .before in
     let o = c1 .close-slot in let w = c1 .before .before .close-key in let c2 = c1 .before .before .before .before .before .before .before in
     let x = c2 .extents-after2 in let c3 = c2 .before .before .before .before .before .before in let if2 = c3 .if2 in let d = c3 .before .is-dir in
     let enum-told5 = c3 .before .before .enum-told5 in let e = c3 .before .before .before .before .edit-of in
@@ -465,11 +465,11 @@ element-copy-out-stamped-by c =
     .given .1) (q .ensures) (x .1 .ensures) (not-false _ (x .2 .left))) (λ x. may-plain k y (f .ensures) (i .given .1) (q .ensures) (d .ensures) (x
     .left)) (if2 .came)) (removed-is _ _ (w .ensures) (o .ensures)) (h .ensures) (j .given .1)
 
-mul-t106 : tie.Need-mul-t106 Inv-loop μ-loop
-mul-t106 c =
+mul-t109 : tie.Need-mul-t109 Inv-loop μ-loop
+mul-t109 c =
     let j = c .before .before .before .before .j in let c1 = c .before .before .before .before .before .before in let h = c1 .find in
-    let o = c1 .before .before .before .close-slot in let w = c1 .before .before .before .before .before .close-key in
-    let c2 = c1 .before .before .before .before .before .before .before .before .before .before in let x = c2 .extents-after2 in
+    let o = c1 .before .before .before .before .before .close-slot in let w = c1 .before .before .before .before .before .before .before .close-key in
+    let c2 = c1 .before .before .before .before .before .before .before .before .before .before .before .before in let x = c2 .extents-after2 in
     let c3 = c2 .before .before .before .before .before .before in let if2 = c3 .if2 in let d = c3 .before .is-dir in
     let enum-told5 = c3 .before .before .enum-told5 in let e = c3 .before .before .before .before .edit-of in
     let c4 = c3 .before .before .before .before .before .before .before .before in let i = c4 .i in let f = c4 .before .before .find-near in
@@ -485,8 +485,8 @@ mul-t106 c =
 element-set-from-t-2 : tie.Need-element-set-from-t-2 Inv-loop μ-loop
 element-set-from-t-2 c =
     let j = c .before .before .before .before .j in let c1 = c .before .before .before .before .before .before in let h = c1 .find in
-    let o = c1 .before .before .before .close-slot in let w = c1 .before .before .before .before .before .close-key in
-    let c2 = c1 .before .before .before .before .before .before .before .before .before .before in let x = c2 .extents-after2 in
+    let o = c1 .before .before .before .before .before .close-slot in let w = c1 .before .before .before .before .before .before .before .close-key in
+    let c2 = c1 .before .before .before .before .before .before .before .before .before .before .before .before in let x = c2 .extents-after2 in
     let c3 = c2 .before .before .before .before .before .before in let if2 = c3 .if2 in let d = c3 .before .is-dir in
     let enum-told5 = c3 .before .before .enum-told5 in let e = c3 .before .before .before .before .edit-of in
     let c4 = c3 .before .before .before .before .before .before .before .before in let i = c4 .i in let f = c4 .before .before .find-near in
@@ -498,7 +498,7 @@ element-set-from-t-2 c =
 
 loop-less-6 : tie.Need-loop-less-6 Inv-loop μ-loop
 loop-less-6 c =
-    let c1 = c .before .before .before .before .before .before .before .before .before .before .before .before .before .before .before .before .before .before .before .before .before .before .before .before .before .before .before .before .before .before .before .before .before .before .before .before .before in
+    let c1 = c .before .before .before .before .before .before .before .before .before .before .before .before .before .before .before .before .before .before .before .before .before .before .before .before .before .before .before .before .before .before .before .before .before .before .before .before .before .before .before in
     let told = c1 .d2 in let n = c1 .before .before .next in let l = c1 .before .before .before .loop in let k = l .inv .0 in
     let y = heard k (n .ensures .1) (told .given .1) in
     y .next .less
@@ -506,8 +506,8 @@ loop-less-6 c =
 loop-again-6 : tie.Need-loop-again-6 Inv-loop μ-loop
 loop-again-6 c =
     let r = c .stamped-by in let j = c .before .before .before .before .j in let c1 = c .before .before .before .before .before .before in let h = c1 .find in
-    let o = c1 .before .before .before .close-slot in let w = c1 .before .before .before .before .before .close-key in
-    let c2 = c1 .before .before .before .before .before .before .before in let a = c2 .scratch2 in let x = c2 .before .before .before .extents-after2 in
+    let o = c1 .before .before .before .before .before .close-slot in let w = c1 .before .before .before .before .before .before .before .close-key in
+    let c2 = c1 .before .before .before .before .before .before .before .before .before in let a = c2 .scratch2 in let x = c2 .before .before .before .extents-after2 in
     let c3 = c2 .before .before .before .before .before .before .before .before .before in let if2 = c3 .if2 in let d = c3 .before .is-dir in
     let enum-told5 = c3 .before .before .enum-told5 in let e = c3 .before .before .before .before .edit-of in
     let c4 = c3 .before .before .before .before .before .before .before .before in let i = c4 .i in let f = c4 .before .before .find-near in
@@ -700,9 +700,18 @@ open-slot-requires c κs =
     let l = c2 .before .before .before .loop in let k = l .inv .0 in let y = heard k (n .ensures .1) (told .given .1) in
     (gap-low k y (f .ensures) (j .given .1) (q .ensures), ((omega (arith, k .held .kept .few, if5 .left)), k .held .kept .slots-len))
 
+cast-at-2 : tie.Need-cast-at-2 Inv-loop μ-loop
+cast-at-2 c =
+    let if5 = c .before .before .before .before .if5 in
+    let c1 = c .before .before .before .before .before .before .before .before .before .before .before .before .before .before .before .before .before .before .before .before in
+    let j = c1 .j2 in let f = c1 .before .before .find-near in let q = c1 .before .before .before .before .before .path-of in
+    let c2 = c1 .before .before .before .before .before .before .before in let told = c2 .d2 in let n = c2 .before .before .next in
+    let l = c2 .before .before .before .loop in let k = l .inv .0 in let y = heard k (n .ensures .1) (told .given .1) in
+    omega (arith, gap-low k y (f .ensures) (j .given .1) (q .ensures), k .held .kept .few, if5 .left)
+
 fresh-requires-2 : tie.Need-fresh-requires-2 Inv-loop μ-loop
 fresh-requires-2 c κs =
-    let o = c .before .open-slot in let if5 = c .before .before .before .before .before .if5 in let c1 = c .before .before .before .before .before .before in
+    let o = c .before .before .before .open-slot in let if5 = c .before .before .before .before .before .before .before .if5 in let c1 = c .before .before .before .before .before .before .before .before in
     let if4 = c1 .if4 in let d = c1 .before .is-dir2 in let u = c1 .before .before .before .before .before .k in
     let c2 = c1 .before .before .before .before .before .before .before in let h = c2 .find2 in let p = c2 .before .before .before .before .q in
     let c3 = c2 .before .before .before .before .before .before in let b = c3 .made-by in let j = c3 .before .before .j2 in
@@ -714,7 +723,7 @@ fresh-requires-2 c κs =
 
 mul-q : tie.Need-mul-q Inv-loop μ-loop
 mul-q c =
-    let o = c .before .before .before .open-slot in let c1 = c .before .before .before .before .before .before .before in let if5 = c1 .if5 in
+    let o = c .before .before .before .before .before .open-slot in let c1 = c .before .before .before .before .before .before .before .before .before in let if5 = c1 .if5 in
     let if4 = c1 .before .if4 in let d = c1 .before .before .is-dir2 in let c2 = c1 .before .before .before .before .before .before in let u = c2 .k in
     let h = c2 .before .before .find2 in let c3 = c2 .before .before .before .before .before .before in let p = c3 .q in let b = c3 .before .before .made-by in
     let j = c3 .before .before .before .before .j2 in let c4 = c3 .before .before .before .before .before .before in let f = c4 .find-near in
@@ -729,7 +738,7 @@ mul-q c =
 
 element-set-from-q : tie.Need-element-set-from-q Inv-loop μ-loop
 element-set-from-q c =
-    let o = c .before .before .before .open-slot in let c1 = c .before .before .before .before .before .before .before in let if5 = c1 .if5 in
+    let o = c .before .before .before .before .before .open-slot in let c1 = c .before .before .before .before .before .before .before .before .before in let if5 = c1 .if5 in
     let if4 = c1 .before .if4 in let d = c1 .before .before .is-dir2 in let c2 = c1 .before .before .before .before .before .before in let u = c2 .k in
     let h = c2 .before .before .find2 in let c3 = c2 .before .before .before .before .before .before in let p = c3 .q in let b = c3 .before .before .made-by in
     let j = c3 .before .before .before .before .j2 in let c4 = c3 .before .before .before .before .before .before in let f = c4 .find-near in
@@ -741,28 +750,28 @@ element-set-from-q c =
 
 add-t : tie.Need-add-t Inv-loop μ-loop
 add-t c =
-    let l = c .before .before .before .before .before .before .before .before .before .before .before .before .before .before .before .before .before .before .before .before .before .before .before .before .before .before .before .before .before .before .before .before .before .loop in
+    let l = c .before .before .before .before .before .before .before .before .before .before .before .before .before .before .before .before .before .before .before .before .before .before .before .before .before .before .before .before .before .before .before .before .before .before .before .loop in
     let k = l .inv .0 in
     omega (arith, k .held .kept .few)
 
 add-applied-3 : tie.Need-add-applied-3 Inv-loop μ-loop
 add-applied-3 c =
-    let c1 = c .before .before .before .before .before .before .before .before .before .before .before .before .before .before .before .before .before .before .before .before .before .before .before .before .before .before .before .before .before .before .before .before .before in
+    let c1 = c .before .before .before .before .before .before .before .before .before .before .before .before .before .before .before .before .before .before .before .before .before .before .before .before .before .before .before .before .before .before .before .before .before .before .before in
     let l = c1 .loop in let s = c1 .before .before .before .before .before .before .before .before .before .before .before .before .before in
     let k = l .inv .0 in
     omega (arith, sums-low _ _ _ (s .pre .0) _ _ _ (k .counts) .0)
 
 loop-less-10 : tie.Need-loop-less-10 Inv-loop μ-loop
 loop-less-10 c =
-    let c1 = c .before .before .before .before .before .before .before .before .before .before .before .before .before .before .before .before .before .before .before .before .before .before .before .before .before .before .before .before .before .before in
+    let c1 = c .before .before .before .before .before .before .before .before .before .before .before .before .before .before .before .before .before .before .before .before .before .before .before .before .before .before .before .before .before .before .before .before in
     let told = c1 .d2 in let n = c1 .before .before .next in let l = c1 .before .before .before .loop in let k = l .inv .0 in
     let y = heard k (n .ensures .1) (told .given .1) in
     y .next .less
 
 loop-again-10 : tie.Need-loop-again-10 Inv-loop μ-loop
 loop-again-10 c =
-    let z = c .before .fresh2 in let o = c .before .before .before .open-slot in let w = c .before .before .before .before .before .open-key in
-    let c1 = c .before .before .before .before .before .before .before in let if5 = c1 .if5 in let if4 = c1 .before .if4 in
+    let z = c .before .fresh2 in let o = c .before .before .before .before .before .open-slot in let w = c .before .before .before .before .before .before .before .open-key in
+    let c1 = c .before .before .before .before .before .before .before .before .before in let if5 = c1 .if5 in let if4 = c1 .before .if4 in
     let d = c1 .before .before .is-dir2 in let c2 = c1 .before .before .before .before .before .before in let u = c2 .k in let h = c2 .before .before .find2 in
     let c3 = c2 .before .before .before .before .before .before in let p = c3 .q in let b = c3 .before .before .made-by in
     let j = c3 .before .before .before .before .j2 in let c4 = c3 .before .before .before .before .before .before in let f = c4 .find-near in
@@ -809,11 +818,9 @@ replay-spec =
     (λ c κs. search needs)
     (λ c. search needs)
     (λ c. search needs)
-    (λ c. search needs)
     find-near-requires
     (λ c. search needs)
-    cast-near
-    (λ c. search needs)
+    cast-at
     (λ c. search needs)
     mul-s
     element-copy-out-s
@@ -832,7 +839,7 @@ replay-spec =
     same-length-10
     returns-4
     revised-requires
-    mul-t79
+    mul-t81
     element-set-from-t
     add-applied
     loop-less-3
@@ -846,6 +853,7 @@ replay-spec =
     extents-after-requires-2
     close-key-requires
     close-slot-requires
+    (λ c κs. search needs)
     sub-t
     add-applied-2
     sub-find
@@ -860,7 +868,7 @@ replay-spec =
     mul-stamped-by
     element-copy-out-stamped-by
     (λ c κs. search needs)
-    mul-t106
+    mul-t109
     element-set-from-t-2
     loop-less-6
     loop-again-6
@@ -892,6 +900,9 @@ replay-spec =
     returns-5
     open-key-requires
     open-slot-requires
+    (λ c. search needs)
+    cast-at-2
+    (λ c κs. search needs)
     (λ c. search needs)
     fresh-requires-2
     mul-q
