@@ -1,17 +1,18 @@
 -- Absent data: a law for each way out of the code, and for callers that the answer is meaning's wherever the slices fit.
 use mathlib.Core.Path.{_≡_, refl, sym, ap, _∙_}
+use mathlib.Core.Logic.{_≢_, ⊎-elim}
 use mathlib.Core.Bool.{Bool, true, false}
 use mathlib.Core.List.{List, [], _∷_, map}
 use Prim.Native.Nat.{ℕ, _+_, _/_, _≤_, _<_, _^_, min}
 use native.Mathlib.Nat.{div-le-self}
 use native.Mathlib.Numerals.{add-one}
 use native.Mathlib.Omega.{arith}
-use lib.ListN.{length, getD, drop, drop-of-length-le}
-use lib.Seq.{drop-cons}
+use lib.ListN.{length, length-replicate, length-set, getD, getD-replicate, set, replicate, drop, drop-of-length-le}
+use lib.Seq.{drop-cons, getD-set-other}
 use lib.Dec.{T}
 use borrow.Author.Tests.{le-leb, lt-leb, not-true, not-false}
 use Rattle.base.specs.Choice.{isSome, orElse, provided}
-use Rattle.base.proofs.Tests.{T-yes, tests}
+use Rattle.base.proofs.Tests.{T-yes, eq-or, not-both, tests}
 use Rattle.meaning.specs.declared.Geometry.{Geometry}
 use Rattle.meaning.specs.declared.Extent.{Extent}
 use Rattle.meaning.specs.declared.Block.{Block}
@@ -24,7 +25,7 @@ use Rattle.label.specs.Search.{found}
 use Rattle.label.specs.declared.Found.{Found}
 use Rattle.label.specs.declared.Found.the-variants.{At, Nothing}
 use Rattle.label.proofs.Answered.{at-some, nothing-none}
-use Rattle.used.specs.Needed.{over, refusalOf}
+use Rattle.used.specs.Needed.{over, refusalOf, Seen}
 use Rattle.used.specs.declared.Missing.{Missing}
 use Rattle.used.specs.declared.Missing.the-variants as missing
 
@@ -81,7 +82,28 @@ module _ {v : Bool} (n : ℕ) (g : Geometry) (m : Labels) (e : Extent) (d : v �
     unfolding lacks isSome blockSize
     lacks-all f r = rw (← d, q, ← number (blockSize g) refl, nothing-none _ f r)
 
+    pub lacks-seen : isSome (findData n m k) ≡ true → false ≡ lacks (over n g) m e
+    unfolding lacks blockSize
+    lacks-seen t = rw (← d, q, ← number (blockSize g) refl, t)
+
 pub ruleset lacking = (data-yes, data-no, lacks-log, lacks-not, lacks-all, not-true, not-false)
+
+-- ---- the numbers that were found before
+
+pub seen-none : (n : ℕ) (m : Labels) → Seen n m (replicate 4096 false)
+seen-none n m = (length-replicate 4096 false, λ d h e. absurd (not-both (getD (replicate 4096 false) d false) (getD-replicate 4096 d false false h) (T-yes _ e)))
+
+module _ (n : ℕ) (m : Labels) (seen : List Bool) (z : Seen n m seen) where
+  pub seen-more : (d : ℕ) → isSome (findData n m d) ≡ true → Seen n m (set seen d true)
+  seen-more d t = (
+    length-set seen d true ∙ z .0,
+    λ k h e. ⊎-elim (λ (q : k ≡ d). rw q t) (λ (q : k ≢ d). z .1 k h (sym (getD-set-other seen d k true false q) ∙ e)) (eq-or k d),
+  )
+
+-- the number that was found is there
+pub is-there : {x : Found} {b : Block} (n : ℕ) (m : Labels) (k : ℕ) → x ≡ found (findData n m k) → x ≡ At b → isSome (findData n m k) ≡ true
+unfolding isSome
+is-there n m k f r = rw (at-some _ f r)
 
 -- ---- one extent after another: what is left decides
 

@@ -15,7 +15,7 @@ ghost use Rattle.base.specs.Choice.{ifTrue};
 ghost use Rattle.meaning.specs.Flash.{labelsOf};
 ghost use Rattle.meaning.specs.Mount.{absent as theAbsent, inData, lacks as theLacks};
 ghost use Rattle.extent.specs.Rows.{extentOf};
-ghost use Rattle.used.specs.Needed.{over, refusalOf};
+ghost use Rattle.used.specs.Needed.{over, refusalOf, Seen};
 ghost use Rattle.used.specs.Bits.{Flagged, Marked, Touched, hasPage, listed, pageBits, usedBits};
 ghost use Rattle.used.specs.Erase.{erasable, eraseBy, eraseOf, unused};
 
@@ -43,16 +43,29 @@ pub enum Missing {
     Path(u32),
 }
 
-fn lacks(g: Geometry, tags: &[u8], paths: &[u64], row: [u32; 4]) -> bool
-    ensures { λ x. ⌜ x ≡ theLacks (over (length (now (tags .entry))) g) (labelsOf (now (tags .entry)) (now (paths .entry))) (extentOf row) ⌝ }
+// An extent whose block was found before is not looked for again: many extents stand in few blocks.
+fn lacks(g: Geometry, tags: &[u8], paths: &[u64], seen: &mut [bool; 4096], row: [u32; 4]) -> bool
+    requires { ⌜ Seen (length (now tags)) (labelsOf (now tags) (now paths)) (now seen) ⌝ }
+    ensures { λ x. ⌜ (x ≡ theLacks (over (length (now (tags .entry))) g) (labelsOf (now (tags .entry)) (now (paths .entry))) (extentOf row)) × Seen (length (now (tags .entry))) (labelsOf (now (tags .entry)) (now (paths .entry))) (now (seen .exit)) ⌝ }
 {
     if !in_data(row) {
         return false;
     }
     let n = label::number_at(g, Address(wide(row[3])));
+    let d = n.0 as usize;
+    if d < 4096 {
+        if seen[d] {
+            return false;
+        }
+    }
     match label::find_data(tags, paths, n) {
-        Found::At(_) => false,
         Found::Nothing => true,
+        Found::At(_) => {
+            if d < 4096 {
+                seen[d] = true;
+            }
+            return false;
+        }
     }
 }
 
@@ -60,10 +73,11 @@ fn lacks(g: Geometry, tags: &[u8], paths: &[u64], row: [u32; 4]) -> bool
 pub fn absent(g: Geometry, tags: &[u8], paths: &[u64], xs: &[[u32; 4]]) -> Missing
     ensures { λ r. ⌜ refusalOf r ≡ theAbsent (over (length (now (tags .entry))) g) (labelsOf (now (tags .entry)) (now (paths .entry))) (map extentOf (now (xs .entry))) ⌝ }
 {
+    let mut seen = [false; 4096];
     let mut k = 0;
     while k < xs.len() {
         let row = xs[k];
-        if lacks(g, tags, paths, row) {
+        if lacks(g, tags, paths, &mut seen, row) {
             return Missing::Path(row[0]);
         }
         k += 1;
