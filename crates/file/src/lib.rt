@@ -49,7 +49,7 @@ fn length_of(records: [Record; 256], n: usize, path: u64) -> Length
 }
 
 // "min(buffer, length − x) bytes, 0 if x ≥ length".
-fn count(room: usize, length: u32, x: u64) -> usize
+pub fn count(room: usize, length: u32, x: u64) -> usize
     ensures { λ r. ⌜ r ≡ min room (length - x) ⌝ }
 {
     let end = length as u64;

@@ -200,7 +200,7 @@ module _ (g : Geometry) (a n : ℕ) {s o c : ℕ} (e : s ≡ blockSize g) (f : o
 
 -- ---- a piece
 
-place-below : (g : Geometry) (m : Labels) (a b : ℕ) → placeAt g m a ≡ some b → b < g .blocks
+pub place-below : (g : Geometry) (m : Labels) (a b : ℕ) → placeAt g m a ≡ some b → b < g .blocks
 unfolding placeAt findData findLog find
 place-below g m a b e = ⊎-elim
     (λ (h : a < 2 ^ 31). first-some (g .blocks) _ b (sym (less-yes a (2 ^ 31) _ _ h) ∙ e) .0)

@@ -23,7 +23,7 @@ const IN_LOG: u32 = 2147483648;
 
 // ---- bytes
 
-fn clear(part: &mut [u8])
+pub fn clear(part: &mut [u8])
     ensures { λ _. ⌜ now (part .exit) ≡ replicate (length (now (part .entry))) 0 ⌝ }
 {
     let mut i = 0;
@@ -33,7 +33,7 @@ fn clear(part: &mut [u8])
     }
 }
 
-fn copy_bytes(part: &mut [u8], source: &[u8])
+pub fn copy_bytes(part: &mut [u8], source: &[u8])
     requires { ⌜ length (now part) ≡ length (now source) ⌝ }
     ensures { λ _. ⌜ now (part .exit) ≡ now (source .entry) ⌝ }
 {
@@ -46,7 +46,7 @@ fn copy_bytes(part: &mut [u8], source: &[u8])
 
 // ---- numbers
 
-fn lesser(a: u64, b: u64) -> u64
+pub fn lesser(a: u64, b: u64) -> u64
     ensures { λ r. ⌜ r ≡ min a b ⌝ }
 {
     if a < b {
@@ -55,7 +55,7 @@ fn lesser(a: u64, b: u64) -> u64
     b
 }
 
-fn larger(a: u64, b: u64) -> u64
+pub fn larger(a: u64, b: u64) -> u64
     ensures { λ r. ⌜ r ≡ theLarger a b ⌝ }
 {
     if a < b {
@@ -65,7 +65,7 @@ fn larger(a: u64, b: u64) -> u64
 }
 
 // Byte i of file p on the line of all files' bytes.
-fn spot(p: u32, i: u32) -> u64
+pub fn spot(p: u32, i: u32) -> u64
     ensures { λ r. ⌜ r ≡ theSpot p i ⌝ }
 {
     p as u64 * 4294967296 + i as u64
@@ -74,7 +74,7 @@ fn spot(p: u32, i: u32) -> u64
 // ---- one piece
 
 // An address without the bit that tells a log block from a data block.
-fn bare(a: u32) -> Address
+pub fn bare(a: u32) -> Address
     ensures { λ r. ⌜ r .0 ≡ theBare a ⌝ }
 {
     if a < IN_LOG {
@@ -84,7 +84,7 @@ fn bare(a: u32) -> Address
 }
 
 // The block that an address names: a log block by the plan, else a data block.
-fn place_at(g: Geometry, tags: &[u8], paths: &[u64], contents: &[u8], p: Plan, a: u32) -> Found
+pub fn place_at(g: Geometry, tags: &[u8], paths: &[u64], contents: &[u8], p: Plan, a: u32) -> Found
     requires { ⌜ Ready g (lent (now tags) (now paths) (now contents)) p ⌝ }
     ensures { λ r. ⌜ r ≡ found (placeAt g (labelsOf (now (tags .entry)) (now (paths .entry))) a) ⌝ }
 {
