@@ -1,0 +1,6 @@
+-- Laws of the direct read.
+pub mod Halves
+pub mod Lays
+pub mod Begun
+pub mod Places
+pub mod Draws
