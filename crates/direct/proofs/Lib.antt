@@ -4,3 +4,4 @@ pub mod Lays
 pub mod Begun
 pub mod Places
 pub mod Draws
+pub mod Same
