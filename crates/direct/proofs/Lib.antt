@@ -5,3 +5,5 @@ pub mod Begun
 pub mod Places
 pub mod Draws
 pub mod Same
+pub mod Stand
+pub mod Mounts

@@ -150,7 +150,7 @@ all-at p [] i d t h = absurd (not-suc-le-zero h)
 all-at p (x ∷ xs) zero d t h = and-l (p x) (allOf p xs) t
 all-at p (x ∷ xs) (suc i) d t h = all-at p xs i d (and-r (p x) (allOf p xs) t) (le-of-suc-le-suc h)
 
-is-some : (o : Option ℕ) → T (isSome o) → o ≡ some (orZero o)
+pub is-some : (o : Option ℕ) → T (isSome o) → o ≡ some (orZero o)
 unfolding isSome orZero
 is-some none t = absurd t
 is-some (some i) t = refl
