@@ -6,7 +6,7 @@ use mathlib.Core.Option.{Option, none, some}
 use mathlib.Core.List.{List}
 use native.Mathlib.Omega.{arith}
 use native.Mathlib.Nat.{mod-lt}
-use Rattle.base.specs.Choice.{ifLess, isSome, onSome, orZero}
+use Rattle.base.specs.Choice.{isSome, onSome, orZero}
 use Rattle.base.proofs.Choices.{less-yes, less-no}
 use Rattle.meaning.specs.declared.Block.{Block}
 use Rattle.meaning.specs.declared.Extent.{Extent}
@@ -51,15 +51,16 @@ module _ (g : Geometry) (m : Labels) (e : Extent) {x : Found} (f : x ≡ found (
           (some (begins g (b .0) + bare (e .address) % blockSize g)) (omega (arith, offset-is)),
     )
 
-    pub begin-there : o + e .count ≤ s → At (b .0 * s + o) ≡ begin (beginOf g m e)
+    pub begin-there : {i : ℕ} → o + e .count ≤ s → i ≡ b .0 * s + o → At i ≡ begin (beginOf g m e)
     unfolding begin beginOf onSome begins
-    begin-there l =
-        let u : b .0 * s + o ≡ b .0 * blockSize g + bare (e .address) % blockSize g = ap (λ (k : ℕ). b .0 * k + o) z ∙ ap (λ (k : ℕ). b .0 * blockSize g + k) offset-is in
+    begin-there l u =
+        let v : b .0 * s + o ≡ b .0 * blockSize g + bare (e .address) % blockSize g =
+        ap (λ (k : ℕ). b .0 * k + o) z ∙ ap (λ (k : ℕ). b .0 * blockSize g + k) offset-is in
         rw (
           at-some _ f h,
           less-no (blockSize g) (bare (e .address) % blockSize g + e .count) none
               (some (b .0 * blockSize g + bare (e .address) % blockSize g)) (omega (arith, offset-is)),
-          u,
+          u ∙ v,
         )
 
 -- ---- a row

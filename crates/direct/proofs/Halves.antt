@@ -1,12 +1,11 @@
 -- The search by halves: whatever its fuel, and over rows in order.
 use Prim.Native.Nat.{ℕ, zero, suc, _+_, _-_, _/_, _^_, _≤_, _<_}
-use mathlib.Core.Path.{_≡_, refl, sym, ap, subst, _∙_}
+use mathlib.Core.Path.{_≡_, refl, sym, subst, _∙_}
 use mathlib.Core.Logic.{⊎-elim}
 use mathlib.Core.List.{List, []}
 use native.Mathlib.Omega.{arith}
 use lib.ListN.{length, getD, take, drop}
 use lib.Seq.{take-length}
-use Rattle.base.specs.Choice.{ifLess}
 use Rattle.base.specs.Member.{All}
 use Rattle.base.proofs.Choices.{less-yes, less-no}
 use Rattle.base.proofs.Tests.{lt-or}

@@ -2,7 +2,7 @@
 use Prim.Native.Nat.{ℕ, _+_, _-_, _/_, _%_, _^_, _≤_, _<_}
 use mathlib.Core.Path.{_≡_, refl, sym, ap, subst, _∙_}
 use mathlib.Core.Logic.{⊎-elim}
-use mathlib.Core.Bool.{Bool, true, false, not, _&&_}
+use mathlib.Core.Bool.{Bool, true, false, not}
 use mathlib.Core.Option.{Option, none, some}
 use mathlib.Core.List.{List, [], _∷_, map}
 use native.Mathlib.Omega.{arith}
@@ -11,26 +11,24 @@ use lib.ListN.{length, getD}
 use Rattle.base.specs.Choice.{ifTrue, ifLess, isSome, onSome, orElse, provided}
 use Rattle.base.specs.Member.{All, In}
 use Rattle.base.specs.Scan.{allOf}
-use Rattle.base.proofs.Choices.{if-yes, less-yes, less-no}
+use Rattle.base.proofs.Choices.{less-yes, less-no}
 use Rattle.base.proofs.Lists.{all-map}
 use Rattle.base.proofs.Tests.{T-dec, and-i, is-true, lt-or, zero-one, →T-not}
 use Rattle.meaning.specs.declared.Extent.{Extent}
 use Rattle.meaning.specs.declared.Geometry.{Geometry}
 use Rattle.meaning.specs.declared.Record.{Record}
-use Rattle.meaning.specs.declared.Refusal.{Refusal}
 use Rattle.meaning.specs.declared.Refusal.the-variants as refused
-use Rattle.meaning.specs.Answer.{Answer, ok, no, unless}
-use Rattle.meaning.specs.Flash.{Image, Labels, Lent, begins, blockSize, fits, imageOf, labelsOf}
+use Rattle.meaning.specs.Answer.{ok, unless}
+use Rattle.meaning.specs.Flash.{Labels, Lent, begins, blockSize, fits, imageOf, labelsOf}
 use Rattle.meaning.specs.Labels.{findData, findLog, labelRefusal, logPlan}
 use Rattle.meaning.specs.Message.{inLog}
 use Rattle.meaning.specs.Mount.{Mounted, absent, inData, lacks, mountOf}
 use Rattle.meaning.specs.Replay.{spot, start, end}
 use Rattle.meaning.specs.Services.{bufferAfter, read}
-use Rattle.extent.specs.Rows.{extentOf, Fit, Four, Lined, Within}
+use Rattle.extent.specs.Rows.{extentOf, Four, Lined, Within}
 use Rattle.log.proofs.Sizes.{sizes}
 use Rattle.plan.specs.Select.{chosen, judged, selected}
-use Rattle.plan.specs.declared.Selected.{Selected}
-use Rattle.plan.specs.declared.Selected.the-variants.{Planned, Refused}
+use Rattle.plan.specs.declared.Selected.the-variants.{Planned}
 use Rattle.replayed.specs.Shape.{Before, Bounded, Shape, Sorted}
 use Rattle.replayed.proofs.Shape.{replay-shape}
 use Rattle.survival.proofs.Survive.{Accepted, accepted→, passed→}
@@ -38,7 +36,7 @@ use Rattle.read.specs.Pieces.{bare, placeAt}
 use Rattle.read.proofs.Address.{bare-low, bare-high}
 use Rattle.direct.specs.Begins.{beginOf, beginsOf, begun, placesAfter, stands}
 use Rattle.direct.specs.Direct.{answered, bufferWith}
-use Rattle.direct.proofs.Same.{begun-placed, is-some, mounts-fit, mounts-tree, same-answer, same-buffer}
+use Rattle.direct.proofs.Same.{begun-placed, is-some, mounts-fit, same-answer, same-buffer}
 use Rattle.direct.proofs.Stand.{Held, held-ends, replay-held, some-is}
 
 -- ---- a live extent's block is there

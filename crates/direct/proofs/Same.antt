@@ -2,16 +2,16 @@
 use Prim.Native.Nat.{ℕ, zero, suc, _+_, _-_, _*_, _%_, _^_, _≤_, _<_, min}
 use mathlib.Core.Path.{_≡_, refl, sym, ap, subst, _∙_}
 use mathlib.Core.Logic.{⊎-elim}
-use mathlib.Core.Bool.{Bool, true, _&&_}
+use mathlib.Core.Bool.{Bool, true}
 use mathlib.Core.Option.{Option, none, some}
 use mathlib.Core.List.{List, [], _∷_, _++_, map, append-nil}
 use native.Mathlib.Omega.{arith}
-use native.Mathlib.Nat.{le-of-suc-le-suc, mod-lt, not-suc-le-zero}
+use native.Mathlib.Nat.{le-of-suc-le-suc, not-suc-le-zero}
 use lib.Dec.{T}
 use lib.ListN.{length, getD, take, drop, replicate, length-append, List·getD-append}
 use lib.Seq.{drop-drop}
-use Rattle.base.specs.Choice.{ifTrue, ifLess, isSome, onSome, orZero}
-use Rattle.base.specs.Member.{All, In}
+use Rattle.base.specs.Choice.{ifTrue, isSome, onSome, orZero}
+use Rattle.base.specs.Member.{In}
 use Rattle.base.specs.Scan.{allOf}
 use Rattle.base.proofs.Choices.{all-less, all-some, all-true, less-yes, less-no}
 use Rattle.base.proofs.Lists.{all-in}
@@ -28,7 +28,7 @@ use Rattle.meaning.specs.Replay.{spot, start, end, look, replay}
 use Rattle.meaning.specs.Services.{bufferAfter, copied, read, readable}
 use Rattle.extent.specs.Rows.{extentOf, runs, Within, Split}
 use Rattle.extent.proofs.Line.{start-end}
-use Rattle.log.proofs.Sizes.{Sizes, sizes, block-in, block-size-high}
+use Rattle.log.proofs.Sizes.{Sizes, sizes, block-in}
 use Rattle.plan.specs.Select.{selected}
 use Rattle.plan.specs.declared.Selected.{Selected}
 use Rattle.plan.specs.declared.Selected.the-variants.{Planned, Refused}

@@ -1,21 +1,21 @@
 -- Of every image that mounts: each live extent's run stands whole in one block that is there. So `begins` refuses none of them.
-use Prim.Native.Nat.{ℕ, zero, suc, _+_, _-_, _*_, _/_, _%_, _^_, _≤_, _<_, min}
+use Prim.Native.Nat.{ℕ, zero, suc, _+_, _-_, _*_, _/_, _%_, _^_, _≤_, _<_}
 use mathlib.Core.Path.{_≡_, refl, sym, ap, subst, _∙_}
-use mathlib.Core.Logic.{_⊎_, ⊎-elim, inl, inr}
-use mathlib.Core.Bool.{Bool, true, false, not, _&&_}
+use mathlib.Core.Logic.{⊎-elim}
+use mathlib.Core.Bool.{Bool, true, false}
 use mathlib.Core.Option.{Option, none, some}
-use mathlib.Core.List.{List, [], _∷_, _++_, map}
+use mathlib.Core.List.{List, []}
 use native.Mathlib.Omega.{arith}
 use native.Mathlib.Nat.{add-mul, div-add-mod', mod-lt, mul-assoc, mul-comm, mul-le-mul-right}
 use lib.Arith.{digits-div, digits-mod}
-use lib.Dec.{T, eqb, leb, eqb→eq, leb→le, le→leb}
+use lib.Dec.{T, eqb, leb, leb→le, le→leb}
 use lib.ListN.{length, take, drop, length-take}
-use Rattle.base.specs.Choice.{ifTrue, isSome, onSome}
+use Rattle.base.specs.Choice.{isSome, onSome}
 use Rattle.base.specs.Member.{All, In}
 use Rattle.base.proofs.Choices.{all-true, all-less, all-eq, all-bind}
-use Rattle.base.proofs.Lists.{all-map, all-of, in-split}
+use Rattle.base.proofs.Lists.{all-map, in-split}
 use Rattle.base.proofs.Scans.{first-some}
-use Rattle.base.proofs.Tests.{T-yes, is-true, lt-or, tests}
+use Rattle.base.proofs.Tests.{T-yes, lt-or, tests}
 use Rattle.meaning.specs.declared.Extent.{Extent}
 use Rattle.meaning.specs.declared.Geometry.{Geometry}
 use Rattle.meaning.specs.declared.Message.{Message}
@@ -23,14 +23,14 @@ use Rattle.meaning.specs.declared.Message.the-variants.{Create, Remove, Truncat
 use Rattle.meaning.specs.declared.Parsed.{Parsed}
 use Rattle.meaning.specs.declared.Tag.the-variants.{Log}
 use Rattle.meaning.specs.Answer.{ok}
-use Rattle.meaning.specs.Flash.{Image, Labels, Lent, addressOf, blockSize, fits, imageOf, logNumber, logR, pageOf}
-use Rattle.meaning.specs.Labels.{activeGeneration, find, findLog, generationAt, logPlan, planFrom, planOf, view}
+use Rattle.meaning.specs.Flash.{Image, Labels, Lent, addressOf, blockSize, fits, logNumber, logR, pageOf}
+use Rattle.meaning.specs.Labels.{find, findLog, generationAt, logPlan, planFrom, planOf, view}
 use Rattle.meaning.specs.Log.{LogBlock, bytesAt, embeddedLimit, logBlock, logBlocks, logOf, logPage, planned, replayed}
 use Rattle.meaning.specs.Message.{Page, past, u16, goodData, goodEmbedded, goodRun, inLog, wellFormed, createAt, removeAt, truncateAt, writeAt, wstatAt, typed, parse}
-use Rattle.meaning.specs.Replay.{Tree, start, end, front, back, others, lay, judge, applies, extentsAfter, changed, bare, replay}
+use Rattle.meaning.specs.Replay.{Tree, start, end, front, back, others, judge, applies, extentsAfter, changed, bare, replay}
 use Rattle.extent.proofs.Line.{start-end}
-use Rattle.log.proofs.Sizes.{Sizes, sizes, block-size-low, block-size-high, page-in}
-use Rattle.replayed.proofs.Keeps.{Each, Well, log-all, replay-keeps}
+use Rattle.log.proofs.Sizes.{sizes, block-size-low, block-size-high, page-in}
+use Rattle.replayed.proofs.Keeps.{Well, log-all, replay-keeps}
 use Rattle.replayed.proofs.Line.{lay-all, others-all}
 use Rattle.survival.proofs.Enough.{numbered}
 use Rattle.survival.proofs.LogFacts.{generation-below, successor-below, r-parts}

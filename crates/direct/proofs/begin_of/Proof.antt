@@ -40,4 +40,4 @@ begin-of-spec =
     omega (arith, h))
     (λ c. begin-there _ _ _ (c .before .before .before .before .before .before .before .before .place-at .ensures)
     (c .before .before .before .before .before .before .b .given .1) (c .before .before .block-size .ensures) (c .before .before .before .offset-at .ensures)
-    (c .before .before .before .before .bare .ensures) (omega (arith, c .before .wide .ensures))))
+    (c .before .before .before .before .bare .ensures) (omega (arith, c .before .wide .ensures)) (omega arith)))

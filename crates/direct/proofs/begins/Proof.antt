@@ -1,6 +1,5 @@
 -- `direct::begins` meets its contract.
 -- Assumes nothing.
-use native.Mathlib.Omega.{arith}
 use denote.Ref.{now}
 use Rattle.plan.specs.Select.{lent}
 use Rattle.shown.proofs.Mounts.{selected-ready}

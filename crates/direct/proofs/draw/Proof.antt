@@ -52,5 +52,5 @@ draw-spec =
     let l = c .before .loop in
     subst (λ (k : ℕ). l .buffer ≡ drawnFrom (now (s .args .contents)) (now (s .args .xs)) (now (s .args .begins)) k (s .args .n) (now (s .args .buffer)))
     (c .before .before .before .before .before .spot .ensures)
-    (drawn-is _ _ _ _ _ (c .before .before .before .before .below .ensures .0) (c .before .before .before .below2 .ensures .0) (c .before .before .lesser .ensures) (now (s .args .buffer))
+    (drawn-is _ _ _ _ _ (c .before .before .before .before .below .ensures .0) (c .before .before .before .below2 .ensures .0) (omega (arith, c .before .before .lesser .ensures)) (now (s .args .buffer))
     (cleared _ _ (s .pre .1) (c .before .before .before .before .before .before .before .before .clear .ensures)) (over-end _ _ _ _ _ _ (l .j) (c .loop-test .left) _ _ (l .inv .1)))))

@@ -20,11 +20,11 @@ lay-spec =
     (λ c κs. search needs)
     (λ c. search needs)
     (λ c κs. let s = c .before .before .before .before .before .before .before .before .before in
-    lay-asks _ _ _ (c .before .before .before .before .before .before .start-of .ensures) (c .before .before .before .before .before .larger .ensures) (c .before .before .before .before .if1 .taken) (c .before .before .before .wide .ensures .0) (c .before .before .lesser .ensures) (now (s .args .buffer))
+    lay-asks _ _ _ (c .before .before .before .before .before .before .start-of .ensures) (c .before .before .before .before .before .larger .ensures) (c .before .before .before .before .if1 .taken) (omega (arith, c .before .before .before .wide .ensures)) (c .before .before .lesser .ensures) (now (s .args .buffer))
     (c .before .if2 .taken) (omega (arith, c .before .before .before .wide .ensures)) (s .pre .0))
     (λ c. search needs)
     (λ c. let s = c .before .before .before .before .before .before .before .before .before .before .before .before in
-    laid-some _ _ _ (c .before .before .before .before .before .before .before .before .before .start-of .ensures) (c .before .before .before .before .before .before .before .before .larger .ensures) (c .before .before .before .before .before .before .before .if1 .taken) (c .before .before .before .before .before .before .wide .ensures .0) (c .before .before .before .before .before .lesser .ensures) _ _ (now (s .args .buffer))
+    laid-some _ _ _ (c .before .before .before .before .before .before .before .before .before .start-of .ensures) (c .before .before .before .before .before .before .before .before .larger .ensures) (c .before .before .before .before .before .before .before .if1 .taken) (omega (arith, c .before .before .before .before .before .before .wide .ensures)) (c .before .before .before .before .before .lesser .ensures) _ _ (now (s .args .buffer))
     (c .before .before .before .before .if2 .taken) (c .before .before .put .ensures))
-    (λ c. laid-none _ _ _ (c .before .before .before .before .before .start-of .ensures) (c .before .before .before .before .larger .ensures) (c .before .before .before .if1 .taken) (c .before .before .wide .ensures .0) (c .before .lesser .ensures) _ _ _ (c .if2 .left))
+    (λ c. laid-none _ _ _ (c .before .before .before .before .before .start-of .ensures) (c .before .before .before .before .larger .ensures) (c .before .before .before .if1 .taken) (omega (arith, c .before .before .wide .ensures)) (c .before .lesser .ensures) _ _ _ (c .if2 .left))
     (λ c. laid-past _ _ _ (c .before .before .start-of .ensures) (c .before .larger .ensures) _ _ _ (c .if1 .left)))

@@ -1,7 +1,6 @@
 -- `direct::read` meets its contract.
 -- Assumes nothing.
 use native.Mathlib.Omega.{arith}
-use denote.Ref.{now}
 use Rattle.file.proofs.Files.{min-most}
 use Rattle.direct.proofs.Draws.{few-begins, no-read, yes-read, none-read}
 use borrow.Author.Needs.{needs}
@@ -20,5 +19,5 @@ read-spec =
     (λ c. let m = min-most _ _ _ _ (c .before .count .ensures) in omega (arith, m .1, c .if3 .taken, c .before .before .before .before .before .before .before .before .good))
     (λ c κs. let m = min-most _ _ _ _ (c .before .before .count .ensures) in (c .before .before .before .before .before .if1 .left, m .0, omega (arith, m .1, c .before .if3 .taken)))
     (λ c. search needs)
-    (λ c. yes-read _ _ _ _ _ _ (c .before .before .before .before .before .before .before .before .if1 .left) (c .before .before .before .before .before .before .before .is-dir .ensures) (c .before .before .before .before .before .before .if2 .left) (c .before .before .before .before .before .count .ensures) (c .before .before .draw .ensures))
-    (λ c. none-read _ _ _ _ _ _ (c .before .before .before .before .if1 .left) (c .before .before .before .is-dir .ensures) (c .before .before .if2 .left) (c .before .count .ensures) (c .if3 .left)))
+    (λ c. yes-read _ _ _ _ _ _ (c .before .before .before .before .before .before .before .before .if1 .left) (c .before .before .before .before .before .before .before .is-dir .ensures) (c .before .before .before .before .before .before .if2 .left) (omega (arith, c .before .before .before .before .before .count .ensures)) (c .before .before .draw .ensures))
+    (λ c. none-read _ _ _ _ _ _ (c .before .before .before .before .if1 .left) (c .before .before .before .is-dir .ensures) (c .before .before .if2 .left) (omega (arith, c .before .count .ensures)) (c .if3 .left)))
