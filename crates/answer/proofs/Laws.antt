@@ -3,16 +3,22 @@
 use Prim.Native.Nat.{ℕ, _+_, _≤_, _<_}
 use mathlib.Core.Path.{_≡_, refl, sym, ap, subst, _∙_}
 use mathlib.Core.List.{List, [], _∷_, _++_, map}
+use mathlib.Core.Option.{Option, none, some}
 use native.Mathlib.Omega.{arith}
 use native.Mathlib.Numerals.{add-one}
 use lib.ListN.{length, take, set, getD}
 use lib.Seq.{take-suc, take-suc-set}
 use borrow.Author.Tests.{eq-eqb, ne-eqb}
-use Rattle.base.proofs.Ways.{holds, fails}
+use Rattle.base.proofs.Ways.{holds, fails, yes=, no=}
 use Rattle.meaning.specs.declared.Extent.{Extent}
 use Rattle.meaning.specs.declared.Geometry.{Geometry}
+use Rattle.meaning.specs.declared.Address.{Address}
+use Rattle.meaning.specs.declared.Refusal.{Refusal}
 use Rattle.meaning.specs.declared.Refusal.the-variants as refused
-use Rattle.meaning.specs.Answer.{Answer, no}
+use Rattle.meaning.specs.Answer as meant
+use Rattle.meaning.specs.Answer.{Answer, no, numberOf}
+use Rattle.log.specs.declared.insertion.Point.{Point}
+use Rattle.log.specs.declared.insertion.Point.the-variants.{At, Nowhere}
 use Rattle.meaning.specs.Flash.{Lent, imageOf}
 use Rattle.meaning.specs.Mount as meaning
 use Rattle.meaning.specs.Mount.{mountOf}
@@ -24,8 +30,35 @@ use Rattle.used.specs.Bits.{listed, usedBits}
 use Rattle.shown.specs.declared.Shown.{Shown}
 use Rattle.shown.specs.Shown as show
 use Rattle.shown.specs.Shown.{rowsShown, placeOf}
+use Rattle.outcome.specs.declared.Outcome.{Outcome}
+use Rattle.outcome.proofs.Back.{back, numbered}
 use Rattle.answer.specs.declared.Core.{Core}
-use Rattle.answer.specs.Mounted.{mounted, Silent, Sizes, mountIn, Cored}
+use Rattle.answer.specs.declared.Insertion.{Insertion}
+use Rattle.answer.specs.Mounted.{insertOf, insertionOf, mounted, outcomeOf, saidOf, Silent, Sizes, mountIn, Cored}
+
+-- ---- numbers say what they stand for
+
+pub said-back : (x : Said) → saidOf (outcomeOf x) ≡ x
+unfolding saidOf
+said-back Whole = sym (yes= 0 0 _ _ refl refl)
+said-back (Refused r) = sym (no= _ 0 _ _ (λ h. omega (arith, h, numbered r)) (ap Refused (sym (back r))))
+
+insert-back : (x : Option ℕ) → insertOf (insertionOf x) ≡ x
+unfolding insertOf
+insert-back none = sym (yes= 0 0 _ _ refl refl)
+insert-back (some a) = sym (no= 1 0 _ _ (λ h. omega (arith, h)) refl)
+
+pub whole-is : {o : Outcome} {x : Said} → x ≡ Whole → (o .refusal ≡ 0) × (o .place ≡ 0) → o ≡ outcomeOf x
+whole-is e h = (λ i. record { refusal = h .0 i; place = h .1 i }) ∙ ap outcomeOf (sym e)
+
+pub refused-is : {o : Outcome} {x : Said} {r : Refusal} → x ≡ Refused r → (o .refusal ≡ numberOf r) × (o .place ≡ meant.placeOf r) → o ≡ outcomeOf x
+refused-is e h = (λ i. record { refusal = h .0 i; place = h .1 i }) ∙ ap outcomeOf (sym e)
+
+pub at-is : {o : Insertion} {x : Point} {a : Address} → x ≡ At a → (o .count ≡ 1) → (o .address ≡ a .0) → o ≡ insertionOf (placeOf x)
+at-is e h k = (λ i. record { count = h i; address = k i }) ∙ ap (λ (y : Point). insertionOf (placeOf y)) (sym e)
+
+pub nowhere-is : {o : Insertion} {x : Point} → x ≡ Nowhere → (o .count ≡ 0) → (o .address ≡ 0) → o ≡ insertionOf (placeOf x)
+nowhere-is e h k = (λ i. record { count = h i; address = k i }) ∙ ap (λ (y : Point). insertionOf (placeOf y)) (sym e)
 
 -- ---- rows as extents
 
@@ -53,8 +86,8 @@ pub record Tells (s : Shown) (xs : List Extent) (c : Core) : Type 0 where
   pub extents : c .answer .extents ≡ xs
   pub used : c .answer .used ≡ s .used
   pub erase : c .answer .erase ≡ s .erase
-  pub insertion : c .answer .insertion ≡ s .insertion
-  pub said : c .answer .said ≡ s .said
+  pub insertion : c .answer .insertion ≡ insertionOf (placeOf (s .insertion))
+  pub said : c .answer .said ≡ outcomeOf (s .said)
 
 -- the core that tells it
 abbrev core : Shown → List Extent → Core
@@ -67,10 +100,10 @@ core s xs = record {
     runs = s .extents;
     used = s .used;
     erase = s .erase;
-    insertion = s .insertion;
+    insertion = insertionOf (placeOf (s .insertion));
     applied = s .applied;
     ignored = s .ignored;
-    said = s .said;
+    said = outcomeOf (s .said);
   };
 }
 
@@ -114,29 +147,48 @@ module _ (g : Geometry) (l : Lent) where
       sizes-by Whole h = (h .0, h .1, h .2, h .3 ∙ ap (λ (ys : List Extent). listed 1024 (usedBits g (imageOf g l .labels) ys)) (sym e))
       sizes-by (Refused x) h = h
 
+      abbrev told : List Extent → Option ℕ → meaning.Mounted
+      told ys i = record {
+        tree = record { records = take (s .files) (s .records); extents = ys; applied = s .applied; ignored = s .ignored };
+        erase = take (s .erase .count) (s .erase .blocks);
+        insert = i;
+      }
+
       core-is : (places : ℕ) → places ≡ 256 → show.showing s rows ≡ mountOf g l → show.Sized g l s rows → Cored g l places (core s xs)
       core-is places h z k = record {
         same = refl;
         few = few-shown k .0;
         room = omega (arith, few-shown k .0);
         shows =
-            ap {B = Answer meaning.Mounted} (λ ys. answerBy (s .said) (record {
-              tree = record { records = take (s .files) (s .records); extents = ys; applied = s .applied; ignored = s .ignored };
-              erase = take (s .erase .count) (s .erase .blocks);
-              insert = placeOf (s .insertion);
-            })) e ∙ z ∙ sym (in-256 places h);
-        sized = sizes-by (s .said) k;
+            ap (λ (x : Said). answerBy x (mounted (core s xs .answer) (s .records))) (said-back (s .said))
+            ∙ ap (λ (i : Option ℕ). answerBy (s .said) (told (take (s .extents) xs) i)) (insert-back (placeOf (s .insertion)))
+            ∙ ap (λ (ys : List Extent). answerBy (s .said) (told ys (placeOf (s .insertion)))) e
+            ∙ z
+            ∙ sym (in-256 places h);
+        sized = (
+          subst (λ (x : Said). Sizes x g l (core s xs .answer)) (sym (said-back (s .said))) (sizes-by (s .said) k),
+          ap outcomeOf (sym (said-back (s .said))),
+          ap insertionOf (sym (insert-back (placeOf (s .insertion)))),
+        );
       }
 
       pub cored : (places : ℕ) (c : Core) → places ≡ 256 → Tells s xs c → show.showing s rows ≡ mountOf g l → show.Sized g l s rows → Cored g l places c
       cored places c h t z k = subst (Cored g l places) (sym (one-core s xs c t)) (core-is places h z k)
 
-  pub cored-other : (places : ℕ) (c : Core) → (places ≡ 256 → ⊥) → (c .n ≡ 0) × (c .answer .said ≡ Refused refused.Geometry) × Silent (c .answer)
+  pub cored-other : (places : ℕ) (c : Core) → (places ≡ 256 → ⊥)
+      → (c .n ≡ 0) × (c .answer .said ≡ outcomeOf (Refused refused.Geometry)) × (c .answer .insertion ≡ insertionOf none) × Silent (c .answer)
       → Cored g l places c
   cored-other places c h k = record {
-    same = k .2 .0 ∙ sym (k .0);
+    same = k .3 .0 ∙ sym (k .0);
     few = omega (arith, k .0);
     room = omega (arith, k .0);
-    shows = ap (λ (x : Said). answerBy x (mounted (c .answer) (c .all))) (k .1) ∙ sym (in-other places h);
-    sized = subst (λ (x : Said). Sizes x g l (c .answer)) (sym (k .1)) (k .2);
+    shows = ap (λ (x : Said). answerBy x (mounted (c .answer) (c .all))) said ∙ sym (in-other places h);
+    sized = (
+      subst (λ (x : Said). Sizes x g l (c .answer)) (sym said) (k .3),
+      k .1 ∙ ap outcomeOf (sym said),
+      k .2 ∙ ap insertionOf (sym (ap insertOf (k .2) ∙ insert-back none)),
+    );
   }
+    where
+      said : saidOf (c .answer .said) ≡ Refused refused.Geometry
+      said = ap saidOf (k .1) ∙ said-back (Refused refused.Geometry)

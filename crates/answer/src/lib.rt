@@ -1,36 +1,49 @@
-// What a mount answers, by value: all that is shown, with the records beside it. Nothing that is lent is changed here.
+// What a mount answers, by value and in numbers, as a host takes it: all that is shown, with the records beside it. Nothing that is lent
+// is changed here.
 ghost use mathlib.Core.Path.{_≡_};
 ghost use Prim.Native.Nat.{_≤_};
 ghost use mathlib.Core.List.{map};
+ghost use mathlib.Core.Option.{none};
 ghost use lib.ListN.{length, take};
 ghost use Rattle.plan.specs.Select.{lent};
 ghost use Rattle.extent.specs.Rows.{extentOf};
 ghost use Rattle.meaning.specs.declared.Refusal.the-variants as no;
+ghost use Rattle.shown.specs.Shown.{placeOf};
 ghost use Rattle.replay.specs.declared.Said.the-variants.{Refused};
-ghost use Rattle.answer.specs.Mounted.{Silent, Cored};
+ghost use Rattle.answer.specs.Mounted.{insertionOf, outcomeOf, Silent, Cored};
 use log::insertion::Point;
 use meaning::Extent;
 use meaning::Geometry;
 use meaning::Place;
 use meaning::Record;
 use meaning::Refusal;
+use outcome::Outcome;
 use replay::Said;
 use used::Erase;
 
+/// The insertion point: its address, where there is one.
+#[repr(C)]
+pub struct Insertion {
+    /// 0 or 1.
+    pub count: usize,
+    pub address: u64,
+}
+
 /// What a mount answers. The records stand in the lent table.
+#[repr(C)]
 pub struct Mounted {
+    pub said: Outcome,
     /// How many.
     pub records: usize,
-    /// The first `runs`, by path and offset.
-    pub extents: [Extent; 1024],
-    pub runs: usize,
-    /// A bit a page, for each physical block.
-    pub used: [u32; 1024],
-    pub erase: Erase,
-    pub insertion: Point,
     pub applied: u64,
     pub ignored: u64,
-    pub said: Said,
+    pub insertion: Insertion,
+    pub erase: Erase,
+    /// A bit a page, for each physical block.
+    pub used: [u32; 1024],
+    /// The first `runs`, by path and offset.
+    pub runs: usize,
+    pub extents: [Extent; 1024],
 }
 
 /// The answer, and the first n records for the table.
@@ -38,6 +51,32 @@ pub struct Core {
     pub all: [Record; 256],
     pub n: usize,
     pub answer: Mounted,
+}
+
+// ---- in numbers
+
+pub fn ended(said: Said) -> Outcome
+    ensures { λ r. ⌜ r ≡ outcomeOf said ⌝ }
+{
+    match said {
+        Said::Whole => outcome::whole(),
+        Said::Refused(x) => outcome::refused(x),
+    }
+}
+
+fn insertion_at(p: Point) -> Insertion
+    ensures { λ r. ⌜ r ≡ insertionOf (placeOf p) ⌝ }
+{
+    match p {
+        Point::At(a) => Insertion {
+            count: 1,
+            address: a.0,
+        },
+        Point::Nowhere => Insertion {
+            count: 0,
+            address: 0,
+        },
+    }
 }
 
 // The first n rows.
@@ -68,7 +107,7 @@ fn extents_of(rows: &[[u32; 4]], n: usize) -> [Extent; 1024]
 
 // GEOMETRY: "a slice length is wrong".
 fn refused() -> Core
-    ensures { λ r. ⌜ (r .n ≡ 0) × (r .answer .said ≡ Refused no.Geometry) × Silent (r .answer) ⌝ }
+    ensures { λ r. ⌜ (r .n ≡ 0) × (r .answer .said ≡ outcomeOf (Refused no.Geometry)) × (r .answer .insertion ≡ insertionOf none) × Silent (r .answer) ⌝ }
 {
     let none = Place { at: 0, len: 0 };
     let empty = Record {
@@ -93,6 +132,8 @@ fn refused() -> Core
         blocks: [0; 1024],
         count: 0,
     };
+    let said = ended(Said::Refused(Refusal::Geometry));
+    let insertion = insertion_at(Point::Nowhere);
     Core {
         all: [empty; 256],
         n: 0,
@@ -102,10 +143,10 @@ fn refused() -> Core
             runs: 0,
             used: [0; 1024],
             erase,
-            insertion: Point::Nowhere,
+            insertion,
             applied: 0,
             ignored: 0,
-            said: Said::Refused(Refusal::Geometry),
+            said,
         },
     }
 }
@@ -123,8 +164,10 @@ pub fn show_all(g: Geometry, tags: &[u8], paths: &[u64], contents: &[u8], places
     let all = s.records;
     let used = s.used;
     let erase = s.erase;
-    let insertion = s.insertion;
-    let said = s.said;
+    let at = s.insertion;
+    let insertion = insertion_at(at);
+    let how = s.said;
+    let said = ended(how);
     Core {
         all,
         n: s.files,

@@ -7,7 +7,6 @@ use meaning::Refusal;
 ghost use mathlib.Core.Path.{_≡_};
 ghost use mathlib.Core.List.{[], _∷_};
 ghost use Prim.Native.Nat.{_<_};
-ghost use Rattle.meaning.specs.Answer.{numberOf, placeOf};
 ghost use Rattle.listing.specs.Wrote.{Wrote};
 ghost use Rattle.listing.specs.Lines.{decimal, digitsOf, escaped, escapes, extentLine, field, fileLine, hexSign, insertionText, nameText, percent, recordText, refusalLine, runLine, totalLine};
 
@@ -202,60 +201,14 @@ pub fn put_extent(buf: &mut [u8], at: usize, e: Extent) -> usize
     put_run(buf, at, e, b'L', e.address - 2147483648)
 }
 
-/// The paper's number of a refusal.
-pub fn number_of(r: Refusal) -> u64
-    ensures { λ n. ⌜ n ≡ numberOf r ⌝ }
-{
-    match r {
-        Refusal::Geometry => 1,
-        Refusal::Tag(_) => 2,
-        Refusal::Path(_) => 3,
-        Refusal::Copies(_) => 4,
-        Refusal::Boot => 5,
-        Refusal::Log => 6,
-        Refusal::Page(_) => 7,
-        Refusal::Message(_) => 8,
-        Refusal::Full(_) => 9,
-        Refusal::Data(_) => 10,
-        Refusal::Unsettled => 11,
-        Refusal::NoBlock(_) => 12,
-        Refusal::NoRoom(_) => 13,
-        Refusal::NoFile(_) => 14,
-        Refusal::Dump(_) => 15,
-    }
-}
-
-/// The place that a refusal gives.
-pub fn place_of(r: Refusal) -> u64
-    ensures { λ n. ⌜ n ≡ placeOf r ⌝ }
-{
-    match r {
-        Refusal::Geometry => 0,
-        Refusal::Tag(b) => b.0 as u64,
-        Refusal::Path(b) => b.0 as u64,
-        Refusal::Copies(b) => b.0 as u64,
-        Refusal::Boot => 0,
-        Refusal::Log => 0,
-        Refusal::Page(a) => a.0,
-        Refusal::Message(a) => a.0,
-        Refusal::Full(a) => a.0,
-        Refusal::Data(p) => p as u64,
-        Refusal::Unsettled => 0,
-        Refusal::NoBlock(k) => k.0 as u64,
-        Refusal::NoRoom(n) => n as u64,
-        Refusal::NoFile(p) => p,
-        Refusal::Dump(l) => l,
-    }
-}
-
 /// X: a refusal's number and place.
 pub fn put_refusal(buf: &mut [u8], at: usize, r: Refusal) -> usize
     ensures { λ n. ⌜ Wrote (now (buf .entry)) at (refusalLine r) (now (buf .exit)) n ⌝ }
 {
-    let number = number_of(r);
-    let place = place_of(r);
+    let number = outcome::number_of(r);
+    let place = outcome::place_of(r);
     let a = put_byte(buf, at, b'X');
-    let b = put_field(buf, a, number);
+    let b = put_word(buf, a, number);
     let c = put_field(buf, b, place);
     put_byte(buf, c, text::NEWLINE)
 }

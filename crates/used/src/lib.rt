@@ -237,6 +237,7 @@ pub fn has_page(mask: u32, p: usize) -> bool
 // ---- the erase list
 
 /// Physical blocks, ascending: the first `count` places.
+#[repr(C)]
 pub struct Erase {
     pub blocks: [u32; 1024],
     pub count: usize,

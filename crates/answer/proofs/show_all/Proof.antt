@@ -19,8 +19,10 @@ show-all-spec =
     (λ c κs. let s = c .before .before .show in
     let k = few-shown _ _ (s .result) (s .last .1 .1 .1 .1 .0) (s .ensures .1) in
     (k .1, omega (arith, k .1)))
-    (λ c. let s = c .before .before .before .before .before .before .show in
-    let x = c .before .before .before .extents-of in
+    (λ c κs. search needs)
+    (λ c κs. search needs)
+    (λ c. let s = c .before .before .before .before .before .before .before .before .show in
+    let x = c .before .before .before .before .before .extents-of in
     cored _ _ (s .result) (s .last .1 .1 .1 .1 .0) (x .result) (x .ensures) _ _ (omega arith)
     (record {
       n = omega arith;
@@ -32,7 +34,7 @@ show-all-spec =
       extents = refl;
       used = refl;
       erase = refl;
-      insertion = refl;
-      said = refl;
+      insertion = c .before .insertion-at .ensures;
+      said = c .ended .ensures;
     })
     (s .ensures .0) (s .ensures .1)))

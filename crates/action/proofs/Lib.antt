@@ -1,0 +1,2 @@
+-- Laws of steps in numbers.
+pub mod Laws

@@ -1,0 +1,2 @@
+-- A step in numbers.
+pub mod Action

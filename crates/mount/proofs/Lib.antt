@@ -1,6 +1,0 @@
--- Laws of the mount, and a call of its core as one step of its walk.
-pub mod Laws
-pub mod Fields
-pub mod Cores
-pub mod One
-pub mod Impostors

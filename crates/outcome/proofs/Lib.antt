@@ -1,0 +1,2 @@
+-- Laws of refusals by number and place.
+pub mod Back

@@ -1,0 +1,2 @@
+-- A refusal by its number and place.
+pub mod Outcome
