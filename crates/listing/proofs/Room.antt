@@ -15,7 +15,7 @@ use Rattle.meaning.specs.declared.Refusal.{Refusal}
 use Rattle.meaning.specs.Answer.{numberOf, placeOf}
 use Rattle.text.proofs.Puts.{put-fits, end-fits, end-full}
 use Rattle.listing.specs.Wrote.{Wrote}
-use Rattle.listing.specs.Lines.{joined, digitsOf, decimal, field, percent, escaped, escapes, nameText, insertionText, totalLine, recordText, fileLine, runLine, extentLine, refusalLine}
+use Rattle.listing.specs.Lines.{joined, digitsOf, decimal, field, hexText, percent, escaped, escapes, nameText, insertionText, totalLine, recordText, fileLine, runLine, extentLine, refusalLine}
 use Rattle.listing.specs.declared.Insertion.{Insertion}
 use Rattle.listing.specs.declared.Insertion.the-variants.{At, Nowhere}
 
@@ -57,7 +57,7 @@ unfolding field joined decimal
 field-most n = omega (arith, length-append (digitsOf 20 n) [], digits-most 20 n)
 
 escaped-most : (b : ℕ) → length (escaped b) ≤ 3
-unfolding escaped percent joined bind
+unfolding escaped percent hexText joined bind
 escaped-most b =
     all-less Short b 0x21 _ _ (λ h. omega arith) (λ h. all-less Short 0x7e b _ _ (λ h. omega arith)
     (λ h. all-eq Short b 37 _ _ (λ h. omega arith) (λ h. omega arith)))

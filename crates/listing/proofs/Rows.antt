@@ -7,12 +7,12 @@ use Rattle.meaning.specs.declared.Refusal.the-variants as refused
 use Rattle.meaning.proofs.Shown as shown
 use Rattle.text.proofs.Spelled.{spelled}
 use Rattle.dump.proofs.Rows.{workedText, readAs}
-use Rattle.listing.specs.Lines.{joined, digitsOf, decimal, field, hexSign, percent, escaped, escapes, nameText, insertionText, totalLine, recordText, fileLine, runLine, extentLine, refusalLine}
+use Rattle.listing.specs.Lines.{joined, digitsOf, decimal, field, hexSign, hexText, percent, escaped, escapes, nameText, insertionText, totalLine, recordText, fileLine, runLine, extentLine, refusalLine}
 use Rattle.listing.specs.Listing.{insertionOf, extentLines, fileLines, mountLines, listing, listed}
 
 -- the bytes that the listing program writes of a text
 unfoldable pub prints : String → List ℕ
-unfolding readAs shown.lines joined digitsOf decimal field hexSign percent escaped escapes nameText insertionText totalLine recordText fileLine runLine extentLine refusalLine insertionOf extentLines fileLines mountLines listing listed
+unfolding readAs shown.lines joined digitsOf decimal field hexSign hexText percent escaped escapes nameText insertionText totalLine recordText fileLine runLine extentLine refusalLine insertionOf extentLines fileLines mountLines listing listed
 prints t = listed (spelled t) 1
 
 -- the worked dump's listing

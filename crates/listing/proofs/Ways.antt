@@ -1,12 +1,11 @@
 -- What is written in pieces is written as a whole.
 use Prim.Native.Nat.{ℕ, zero, suc, _+_, _-_, _/_, _%_, _≤_, _<_}
-use native.Mathlib.Numerals.{sub-one, add-one}
-use native.Mathlib.Omega.{arith}
+use native.Mathlib.Numerals.{sub-one}
 use mathlib.Core.Bool.{Bool, true, false}
 use mathlib.Core.List.{List, [], _∷_, _++_, append-nil}
 use mathlib.Core.Path.{_≡_, refl, sym, _∙_}
-use lib.ListN.{length, set, drop, getD}
-use lib.Seq.{set-out, drop-cons, drop-length}
+use lib.ListN.{length, set, getD}
+use lib.Seq.{set-out}
 use Rattle.base.specs.Choice.{ifTrue, ifLess, ifEq, bind}
 use Rattle.base.proofs.Ways as choice
 use lib.Dec.{leb}
@@ -18,6 +17,7 @@ use Rattle.text.specs.Piece.{tab}
 use Rattle.text.specs.Put.{put, endOf}
 use Rattle.text.proofs.Puts.{past-in, past-out, put-append, end-append}
 use Rattle.listing.specs.Wrote.{Wrote}
+use Rattle.listing.proofs.Left.{Left, left-start, left-done, left-on}
 use Rattle.listing.specs.Lines.{joined, digitsOf, escaped, escapes, extentLine, field, insertionText, runLine}
 use Rattle.listing.specs.declared.Insertion.{Insertion}
 use Rattle.listing.specs.declared.Insertion.the-variants.{At, Nowhere}
@@ -135,32 +135,19 @@ module _ {l m k : List ℕ} {at to end : ℕ} where
 
 pub ruleset digits-ways = (digits-none, digits-small, digits-more)
 
--- ---- a loop over a name: writing what is left from here gives what writing the whole gave
-
-pub record Rest (name l₀ : List ℕ) (at₀ i : ℕ) (l : List ℕ) (at : ℕ) : Type 0 where
-  pub within : i ≤ length name
-  pub text : put l at (escapes (drop i name)) ≡ put l₀ at₀ (escapes name)
-  pub end : endOf l at (escapes (drop i name)) ≡ endOf l₀ at₀ (escapes name)
+-- ---- a loop over a name
 
 module _ (name l₀ : List ℕ) (at₀ : ℕ) where
-  pub rest-start : Rest name l₀ at₀ 0 l₀ at₀
-  rest-start = record { within = omega arith; text = refl; end = refl }
+  pub name-start : Left escapes name l₀ at₀ 0 l₀ at₀
+  name-start = left-start escapes name l₀ at₀
 
-  module _ (i : ℕ) {l : List ℕ} {at : ℕ} (w : Rest name l₀ at₀ i l at) where
-    pub rest-done : length name ≤ i → Wrote l₀ at₀ (escapes name) l at
-    unfolding put endOf escapes
-    rest-done h =
-        let e : i ≡ length name = omega (arith, w .within) in
-        record { text = rw (e, drop-length) at (w .text); end = rw (e, drop-length) at (w .end) }
-
-    pub rest-on : {m : List ℕ} {to : ℕ} → i < length name → Wrote l at (escaped (getD name i 0)) m to → Rest name l₀ at₀ (i + 1) m to
+  module _ (i : ℕ) {l : List ℕ} {at : ℕ} (w : Left escapes name l₀ at₀ i l at) where
+    pub name-done : length name ≤ i → Wrote l₀ at₀ (escapes name) l at
     unfolding escapes
-    rest-on {m} {to} h p =
-        let d : drop i name ≡ getD name i 0 ∷ drop (i + 1) name = rw (add-one i) (drop-cons name i 0 h) in
-        record {
-          within = omega arith;
-          text = rw (p .text, p .end) (put-append l at (escaped (getD name i 0)) (escapes (drop (i + 1) name)) ∙ rw d at (w .text));
-          end = rw (p .text, p .end) (end-append l at (escaped (getD name i 0)) (escapes (drop (i + 1) name)) ∙ rw d at (w .end));
-        }
+    name-done h = left-done escapes name l₀ at₀ i w refl h
 
-pub ruleset rests = (rest-start, rest-done, rest-on)
+    pub name-on : {m : List ℕ} {to : ℕ} → i < length name → Wrote l at (escaped (getD name i 0)) m to → Left escapes name l₀ at₀ (i + 1) m to
+    unfolding escapes
+    name-on h p = left-on escapes name l₀ at₀ i w 0 _ refl h p
+
+pub ruleset name-ways = (name-start, name-done, name-on)

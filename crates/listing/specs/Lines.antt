@@ -37,12 +37,16 @@ field n = joined ((tab ∷ []) ∷ decimal n ∷ [])
 unfoldable pub hexSign : ℕ → ℕ
 hexSign d = ifLess d 10 (48 + d) (87 + d)
 
--- "`%` and two hex digits"
-unfoldable pub percent : ℕ → List ℕ
-percent b =
+-- a byte as two hex digits
+unfoldable pub hexText : ℕ → List ℕ
+hexText b =
     bind (hexSign (b / 16)) (λ h.
     bind (hexSign (b % 16)) (λ l.
-    joined ((37 ∷ []) ∷ (h ∷ []) ∷ (l ∷ []) ∷ [])))
+    joined ((h ∷ []) ∷ (l ∷ []) ∷ [])))
+
+-- "`%` and two hex digits"
+unfoldable pub percent : ℕ → List ℕ
+percent b = joined ((37 ∷ []) ∷ hexText b ∷ [])
 
 -- "bytes outside 0x21 to 0x7e and `%` print as `%` and two hex digits"
 unfoldable pub escaped : ℕ → List ℕ

@@ -8,7 +8,7 @@ ghost use mathlib.Core.Path.{_≡_};
 ghost use mathlib.Core.List.{[], _∷_};
 ghost use Prim.Native.Nat.{_<_};
 ghost use Rattle.listing.specs.Wrote.{Wrote};
-ghost use Rattle.listing.specs.Lines.{decimal, digitsOf, escaped, escapes, extentLine, field, fileLine, hexSign, insertionText, nameText, percent, recordText, refusalLine, runLine, totalLine};
+ghost use Rattle.listing.specs.Lines.{decimal, digitsOf, escaped, escapes, extentLine, field, fileLine, hexSign, hexText, insertionText, nameText, percent, recordText, refusalLine, runLine, totalLine};
 
 /// The insertion point: the logical address of a page, or none.
 pub enum Insertion {
@@ -74,14 +74,21 @@ fn hex_sign(d: u8) -> u8
     87 + d
 }
 
-fn put_percent(buf: &mut [u8], at: usize, b: u8) -> usize
-    ensures { λ r. ⌜ Wrote (now (buf .entry)) at (percent b) (now (buf .exit)) r ⌝ }
+/// A byte as two hex digits.
+pub fn put_hex(buf: &mut [u8], at: usize, b: u8) -> usize
+    ensures { λ r. ⌜ Wrote (now (buf .entry)) at (hexText b) (now (buf .exit)) r ⌝ }
 {
     let h = hex_sign(b / 16);
     let l = hex_sign(b % 16);
+    let i = put_byte(buf, at, h);
+    put_byte(buf, i, l)
+}
+
+fn put_percent(buf: &mut [u8], at: usize, b: u8) -> usize
+    ensures { λ r. ⌜ Wrote (now (buf .entry)) at (percent b) (now (buf .exit)) r ⌝ }
+{
     let i = put_byte(buf, at, b'%');
-    let j = put_byte(buf, i, h);
-    put_byte(buf, j, l)
+    put_hex(buf, i, b)
 }
 
 fn put_escaped(buf: &mut [u8], at: usize, b: u8) -> usize

@@ -3,7 +3,8 @@
 use Prim.Native.Nat.{_-_}
 use lib.ListN.{length}
 use mathlib.Core.Path.{_≡_, refl}
-use Rattle.lister.proofs.Lists.{Left, rowLines, rows-ways}
+use Rattle.listing.proofs.Left.{Left}
+use Rattle.lister.proofs.Lists.{rowLines, rows-ways}
 use borrow.Author.Needs.{needs}
 use Rattle.lister.proofs.put_extents.Statement.{statement}
 use Rattle.lister.proofs.put_extents.Tie as tie

@@ -6,7 +6,8 @@ use lib.ListN.{length, take}
 use mathlib.Core.Path.{_≡_, refl}
 use Rattle.extent.specs.Rows.{extentOf}
 use Rattle.listing.specs.Listing.{fileLines}
-use Rattle.lister.proofs.Lists.{Left, files-ways}
+use Rattle.listing.proofs.Left.{Left}
+use Rattle.lister.proofs.Lists.{files-ways}
 use borrow.Author.Needs.{needs}
 use Rattle.lister.proofs.put_files.Statement.{statement}
 use Rattle.lister.proofs.put_files.Tie as tie
