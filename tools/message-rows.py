@@ -13,40 +13,31 @@ Where the fields stand in a message at position 0 (n, u, v, m: the lengths of it
   W  name 9, perm 9 + n, uid 15 + n, gid 17 + n + u, mtime 17 + n + u + v, muid 23 + n + u + v, end 23 + n + u + v + m"""
 import sys
 
+import messages
+from messages import create, le, message, remove, s, truncate, write
+
 EMBEDDED = 0x8000001b  # bit 31, and 27: where the data of a write at 0 with an empty muid begins
 E = b'e'
 
 
-def le(n, width):
-    return n.to_bytes(width, 'little')
-
-
-def s(text):
-    return le(len(text), 2) + text
-
-
-def message(kind, path, payload):
-    return kind + le(4 + len(payload), 2) + le(path, 4) + payload
-
-
 def c(name, uid=b'', gid=b''):
-    return message(b'c', 0, le(420, 4) + le(7, 4) + le(100, 4) + le(0, 4) + s(name) + s(uid) + s(gid))
+    return create(7, name, uid=uid, gid=gid)
 
 
 def r(muid=b'', spare=b''):
-    return message(b'r', 7, le(300, 4) + s(muid) + spare)
+    return remove(7, muid, spare)
 
 
 def t(muid=b''):
-    return message(b't', 7, le(400, 4) + le(2, 4) + s(muid))
+    return truncate(7, 2, muid)
 
 
 def w(count, flashaddr, held=b'', offset=0):
-    return message(b'w', 7, le(offset, 4) + le(count, 2) + le(200, 4) + le(0, 4) + s(b'') + le(flashaddr, 4) + held)
+    return write(7, offset, count, flashaddr, 0, held)
 
 
 def wstat(name, perm=0xffffffff, uid=b'', gid=b'', mtime=0xffffffff, muid=b''):
-    return message(b'W', 7, s(name) + le(perm, 4) + s(uid) + s(gid) + le(mtime, 4) + s(muid))
+    return messages.wstat(7, name, perm, uid, gid, mtime, muid)
 
 
 WORKED = bytes.fromhex(
