@@ -1,0 +1,2 @@
+-- The lines of the program `room`.
+pub mod Lines
