@@ -1,2 +1,3 @@
--- Laws that the proofs of the functions share.
+-- Laws that the proofs of the functions share, and rows.
 pub mod Ways
+pub mod Rows

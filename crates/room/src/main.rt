@@ -188,9 +188,7 @@ fn reclaim_copy(
     let Found::At(_) = label::find_data(tags, paths, number) else {
         return;
     };
-    copy::bytes(spare_tags, tags);
-    copy::paths(spare_paths, paths);
-    copy::bytes(spare, contents);
+    copy::image(tags, paths, contents, spare_tags, spare_paths, spare);
     reclaim(g, spare_tags, spare_paths, spare, number);
 }
 

@@ -1,11 +1,11 @@
--- `copy::bytes` meets its contract.
+-- `copy::put_bytes` meets its contract.
 -- Assumes nothing.
 use Prim.Native.Nat.{_-_}
 use lib.ListN.{length}
 use Rattle.step.proofs.Part.{Copied, fills}
 use borrow.Author.Needs.{needs}
-use Rattle.copy.proofs.bytes.Statement.{statement}
-use Rattle.copy.proofs.bytes.Tie as tie
+use Rattle.copy.proofs.put_bytes.Statement.{statement}
+use Rattle.copy.proofs.put_bytes.Tie as tie
 
 abbrev Inv-loop : tie.InvT-loop
 Inv-loop to₀ from i₀ to i = Copied to₀ from to i
@@ -13,8 +13,8 @@ Inv-loop to₀ from i₀ to i = Copied to₀ from to i
 abbrev μ-loop : tie.MeasureT-loop
 μ-loop to₀ from i₀ to i = length from - i
 
-pub bytes-spec : {M : Type 1} → statement M
-bytes-spec =
+pub put-bytes-spec : {M : Type 1} → statement M
+put-bytes-spec =
     tie.close
     (tie.spec
     Inv-loop
