@@ -1,12 +1,9 @@
 -- Steps and their numbers.
 -- Assumes nothing.
-use Prim.Native.Nat.{ℕ, _+_, _<_}
+use Prim.Native.Nat.{ℕ}
 use mathlib.Core.Path.{_≡_, refl, sym, ap, _∙_}
-use mathlib.Core.List.{List, [], _∷_, _++_, map, map-append, map-map}
+use mathlib.Core.List.{List, [], _∷_, map}
 use native.Mathlib.Omega.{arith}
-use native.Mathlib.Numerals.{add-one}
-use lib.ListN.{length, take, set, getD}
-use lib.Seq.{take-suc, take-suc-set}
 use Rattle.base.proofs.Ways.{yes=, no=}
 use Rattle.meaning.specs.declared.Block.{Block}
 use Rattle.meaning.specs.declared.Step.{Step}
@@ -36,11 +33,3 @@ module _ {a : Action} {s : Step} where
   pub label-is : {b : Block} {tag path : ℕ} → s ≡ LabelWrite b tag path → a .kind ≡ 3 → a .tag ≡ tag → a .block ≡ b .0 → a .from ≡ 0 → a .page ≡ 0
       → a .path ≡ path → a ≡ actionOf s
   label-is e k t b f p q = (λ i. record { kind = k i; tag = t i; block = b i; from = f i; page = p i; path = q i }) ∙ ap actionOf (sym e)
-
--- a list of images, one more
-pub map-on : {A B : Type 0} (f : A → B) (d : A) (xs : List A) (ys : List B) (k : ℕ) → take k ys ≡ map f (take k xs) → k < length ys → k < length xs
-    → take (k + 1) (set ys k (f (getD xs k d))) ≡ map f (take (k + 1) xs)
-map-on f d xs ys k e h m =
-    rw (add-one k)
-    (take-suc-set ys k (f (getD xs k d)) h ∙ ap (λ (zs : List _). zs ++ f (getD xs k d) ∷ []) e ∙ sym (map-append f (take k xs) (getD xs k d ∷ []))
-    ∙ ap (map f) (sym (take-suc xs k d m)))

@@ -1,13 +1,11 @@
 -- The answer from what is shown.
 -- Assumes nothing.
-use Prim.Native.Nat.{ℕ, _+_, _≤_, _<_}
+use Prim.Native.Nat.{ℕ, _≤_}
 use mathlib.Core.Path.{_≡_, refl, sym, ap, subst, _∙_}
-use mathlib.Core.List.{List, [], _∷_, _++_, map}
+use mathlib.Core.List.{List}
 use mathlib.Core.Option.{Option, none, some}
 use native.Mathlib.Omega.{arith}
-use native.Mathlib.Numerals.{add-one}
-use lib.ListN.{length, take, set, getD}
-use lib.Seq.{take-suc, take-suc-set}
+use lib.ListN.{take}
 use borrow.Author.Tests.{eq-eqb, ne-eqb}
 use Rattle.base.proofs.Ways.{holds, fails, yes=, no=}
 use Rattle.meaning.specs.declared.Extent.{Extent}
@@ -22,7 +20,6 @@ use Rattle.log.specs.declared.insertion.Point.the-variants.{At, Nowhere}
 use Rattle.meaning.specs.Flash.{Lent, imageOf}
 use Rattle.meaning.specs.Mount as meaning
 use Rattle.meaning.specs.Mount.{mountOf}
-use Rattle.extent.specs.Rows.{extentOf}
 use Rattle.replay.specs.declared.Said.{Said}
 use Rattle.replay.specs.declared.Said.the-variants.{Whole, Refused}
 use Rattle.replay.specs.Replay.{answerBy}
@@ -59,20 +56,6 @@ at-is e h k = (λ i. record { count = h i; address = k i }) ∙ ap (λ (y : Poin
 
 pub nowhere-is : {o : Insertion} {x : Point} → x ≡ Nowhere → (o .count ≡ 0) → (o .address ≡ 0) → o ≡ insertionOf (placeOf x)
 nowhere-is e h k = (λ i. record { count = h i; address = k i }) ∙ ap (λ (y : Point). insertionOf (placeOf y)) (sym e)
-
--- ---- rows as extents
-
-map-append : {A B : Type 0} (f : A → B) (xs ys : List A) → map f (xs ++ ys) ≡ map f xs ++ map f ys
-map-append f [] ys = refl
-map-append f (x ∷ xs) ys = ap (λ (zs : List _). f x ∷ zs) (map-append f xs ys)
-
-pub row-on : (rows : List (List ℕ)) (xs : List Extent) (k : ℕ) → take k xs ≡ map extentOf (take k rows) → k < length xs → k < length rows
-    → take (k + 1) (set xs k (extentOf (getD rows k []))) ≡ map extentOf (take (k + 1) rows)
-row-on rows xs k e h m =
-    let v : Extent = extentOf (getD rows k []) in
-    rw (add-one k)
-    (take-suc-set xs k v h ∙ ap (λ (ys : List Extent). ys ++ v ∷ []) e ∙ sym (map-append extentOf (take k rows) (getD rows k [] ∷ []))
-    ∙ ap (map extentOf) (sym (take-suc rows k [] m)))
 
 -- ---- what is shown, told field by field
 

@@ -1,9 +1,12 @@
 -- Laws of statements about the elements of a list.
-use mathlib.Core.Path.{_≡_, refl, sym, subst}
+use mathlib.Core.Path.{_≡_, refl, sym, ap, subst, _∙_}
 use mathlib.Core.Logic.{_⊎_, inl, inr, ⊎-elim}
 use mathlib.Core.Bool.{Bool, _||_}
-use mathlib.Core.List.{List, [], _∷_, _++_}
-use Prim.Native.Nat.{ℕ}
+use mathlib.Core.List.{List, [], _∷_, _++_, map, map-append}
+use Prim.Native.Nat.{ℕ, _+_, _<_}
+use native.Mathlib.Numerals.{add-one}
+use lib.ListN.{length, take, set, getD}
+use lib.Seq.{take-suc, take-suc-set}
 use lib.Dec.{T}
 use Rattle.base.specs.Scan.{anyOf}
 use Rattle.base.specs.Member.{All, In}
@@ -45,3 +48,13 @@ any-in q (y ∷ ys) x h t = ⊎-elim (λ e. or-l (q y) (anyOf q ys) (subst (λ z
 pub all-both : {A : Type 0} (P Q R : A → Type 0) (xs : List A) → ((x : A) → P x → Q x → R x) → All P xs → All Q xs → All R xs
 all-both P Q R [] f p q = tt
 all-both P Q R (x ∷ xs) f p q = (f x (p .0) (q .0), all-both P Q R xs f (p .1) (q .1))
+
+-- ---- one more
+
+-- what a loop that stores one image after another has stored
+pub map-on : {A B : Type 0} (f : A → B) (d : A) (xs : List A) (ys : List B) (k : ℕ) → take k ys ≡ map f (take k xs) → k < length ys → k < length xs
+    → take (k + 1) (set ys k (f (getD xs k d))) ≡ map f (take (k + 1) xs)
+map-on f d xs ys k e h m =
+    rw (add-one k)
+    (take-suc-set ys k (f (getD xs k d)) h ∙ ap (λ (zs : List _). zs ++ f (getD xs k d) ∷ []) e ∙ sym (map-append f (take k xs) (getD xs k d ∷ []))
+    ∙ ap (map f) (sym (take-suc xs k d m)))

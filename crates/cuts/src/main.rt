@@ -7,12 +7,9 @@
 //   I image number steps cuts differ     that reclaim with its label write before its pages: how many did not show the same
 //   T cuts same cuts differ              all lines S and R, and all lines I
 // The images are few and small: the first 81,920 bytes are read.
-mod judge;
-mod junk;
-mod lists;
-
+use cut::Before;
+use cut::Tried;
 use dump::Dump;
-use judge::Before;
 use label::Found;
 use meaning::Geometry;
 use meaning::Number;
@@ -26,48 +23,20 @@ ghost use Rattle.reclaim.specs.Reclaimed.{Listing};
 // "numbers are at most 4095"
 const NUMBERS: u32 = 4096;
 
-// How many cut states were tried, and how many of them showed the same.
-struct Tried {
-    cuts: u64,
-    same: u64,
-}
-
 struct Totals {
     proper: Tried,
     impostors: Tried,
-}
-
-fn nothing() -> Tried {
-    Tried { cuts: 0, same: 0 }
 }
 
 fn differ(t: Tried) -> u64 {
     std::num::wrapping_sub_u64(t.cuts, t.same)
 }
 
-fn count(t: Tried, same: bool) -> Tried {
-    let cuts = std::num::wrapping_add_u64(t.cuts, 1);
-    if same {
-        return Tried {
-            cuts,
-            same: std::num::wrapping_add_u64(t.same, 1),
-        };
-    }
-    Tried { cuts, same: t.same }
-}
-
-fn sum(a: Tried, b: Tried) -> Tried {
-    Tried {
-        cuts: std::num::wrapping_add_u64(a.cuts, b.cuts),
-        same: std::num::wrapping_add_u64(a.same, b.same),
-    }
-}
-
 fn with_proper(all: Totals, t: Tried) -> Totals {
     let proper = all.proper;
     let impostors = all.impostors;
     Totals {
-        proper: sum(proper, t),
+        proper: cut::sum(proper, t),
         impostors,
     }
 }
@@ -77,7 +46,7 @@ fn with_impostor(all: Totals, t: Tried) -> Totals {
     let impostors = all.impostors;
     Totals {
         proper,
-        impostors: sum(impostors, t),
+        impostors: cut::sum(impostors, t),
     }
 }
 
@@ -120,201 +89,6 @@ fn write_totals(proper: Tried, impostors: Tried) {
     let b = listing::put_field(&mut line, a, proper.cuts);
     let c = listing::put_field(&mut line, b, proper.same);
     write_counts(&mut line, c, impostors.cuts, differ(impostors));
-}
-
-// ---- one cut state
-
-fn do_first(
-    g: Geometry,
-    tags: &mut [u8],
-    paths: &mut [u64],
-    contents: &mut [u8],
-    l: Steps,
-    k: usize,
-)
-    requires { ⌜ Listing 35 l × (k ≤ 35) ⌝ }
-{
-    let mut i: usize = 0;
-    while i < k {
-        let s = lists::step_at(l, i);
-        step::do_step(g, tags, paths, contents, s);
-        i += 1;
-    }
-}
-
-// The first k steps are done, and the power goes. In state 0 that is between two steps. Else the next is cut short: states 1 to 4 leave
-// junk in the block under work and its label as it was; 5 to 8, which only an erase has, leave junk and a free label.
-fn cut(
-    g: Geometry,
-    tags: &mut [u8],
-    paths: &mut [u64],
-    contents: &mut [u8],
-    l: Steps,
-    k: usize,
-    state: u8,
-)
-    requires { ⌜ Listing 35 l × (k ≤ 35) ⌝ }
-{
-    do_first(g, tags, paths, contents, l, k);
-    if state == 0 {
-        return;
-    }
-    let s = lists::step_at(l, k);
-    let block = lists::under_work(s);
-    junk::spoil(g, contents, block, (state - 1) % 4);
-    if 4 < state {
-        let free = Step::LabelWrite {
-            block,
-            tag: 0xff,
-            path: 17179869183,
-        };
-        step::do_step(g, tags, paths, contents, free);
-    }
-}
-
-fn cut_copy(
-    g: Geometry,
-    tags: &[u8],
-    paths: &[u64],
-    contents: &[u8],
-    cut_tags: &mut [u8],
-    cut_paths: &mut [u64],
-    cut_contents: &mut [u8],
-    l: Steps,
-    k: usize,
-    state: u8,
-)
-    requires { ⌜ Listing 35 l × (k ≤ 35) ⌝ }
-{
-    copy::image(tags, paths, contents, cut_tags, cut_paths, cut_contents);
-    cut(g, cut_tags, cut_paths, cut_contents, l, k, state);
-}
-
-// Whether what is left shows the same as before.
-fn try_state(
-    g: Geometry,
-    tags: &[u8],
-    paths: &[u64],
-    contents: &[u8],
-    cut_tags: &mut [u8],
-    cut_paths: &mut [u64],
-    cut_contents: &mut [u8],
-    l: Steps,
-    k: usize,
-    state: u8,
-    before: Before,
-    listed: &[u8],
-    out: &mut [u8],
-) -> bool
-    requires { ⌜ Listing 35 l × (k ≤ 35) × (before .files ≤ 256) ⌝ }
-{
-    cut_copy(
-        g,
-        tags,
-        paths,
-        contents,
-        cut_tags,
-        cut_paths,
-        cut_contents,
-        l,
-        k,
-        state,
-    );
-    judge::shows_same(
-        g,
-        tags,
-        paths,
-        contents,
-        cut_tags,
-        cut_paths,
-        cut_contents,
-        before,
-        listed,
-        out,
-    )
-}
-
-// ---- a list of steps, cut everywhere
-
-// Every state of a cut after k steps.
-fn try_step(
-    g: Geometry,
-    tags: &[u8],
-    paths: &[u64],
-    contents: &[u8],
-    cut_tags: &mut [u8],
-    cut_paths: &mut [u64],
-    cut_contents: &mut [u8],
-    l: Steps,
-    k: usize,
-    before: Before,
-    listed: &[u8],
-    out: &mut [u8],
-) -> Tried
-    requires { ⌜ Listing 35 l × (k ≤ 35) × (before .files ≤ 256) ⌝ }
-{
-    let n = lists::states_at(l, k);
-    let mut t = nothing();
-    let mut state: u8 = 0;
-    while state < n {
-        let same = try_state(
-            g,
-            tags,
-            paths,
-            contents,
-            cut_tags,
-            cut_paths,
-            cut_contents,
-            l,
-            k,
-            state,
-            before,
-            listed,
-            out,
-        );
-        t = count(t, same);
-        state += 1;
-    }
-    t
-}
-
-fn try_list(
-    g: Geometry,
-    tags: &[u8],
-    paths: &[u64],
-    contents: &[u8],
-    cut_tags: &mut [u8],
-    cut_paths: &mut [u64],
-    cut_contents: &mut [u8],
-    l: Steps,
-    before: Before,
-    listed: &[u8],
-    out: &mut [u8],
-) -> Tried
-    requires { ⌜ Listing 35 l × (before .files ≤ 256) ⌝ }
-{
-    let n = l.count;
-    let mut t = nothing();
-    let mut k: usize = 0;
-    while k <= n {
-        let more = try_step(
-            g,
-            tags,
-            paths,
-            contents,
-            cut_tags,
-            cut_paths,
-            cut_contents,
-            l,
-            k,
-            before,
-            listed,
-            out,
-        );
-        t = sum(t, more);
-        k += 1;
-    }
-    t
 }
 
 // ---- an image
@@ -364,7 +138,7 @@ fn try_proper(
         cut_contents,
         number,
     );
-    let t = try_list(
+    let t = cut::try_list(
         g,
         tags,
         paths,
@@ -408,8 +182,8 @@ fn try_impostor(
         cut_contents,
         number,
     );
-    let wrong = lists::label_first(l);
-    let t = try_list(
+    let wrong = cut::label_first(l);
+    let t = cut::try_list(
         g,
         tags,
         paths,
@@ -532,7 +306,7 @@ fn settle_list(
     copy::image(tags, paths, contents, cut_tags, cut_paths, cut_contents);
     let r = settle::settle(g, cut_tags, cut_paths, cut_contents);
     let blocks = r.blocks;
-    lists::erases(&blocks, r.count)
+    cut::erases(&blocks, r.count)
 }
 
 fn try_settle(
@@ -551,7 +325,7 @@ fn try_settle(
     requires { ⌜ before .files ≤ 256 ⌝ }
 {
     let l = settle_list(g, tags, paths, contents, cut_tags, cut_paths, cut_contents);
-    let t = try_list(
+    let t = cut::try_list(
         g,
         tags,
         paths,
@@ -634,7 +408,7 @@ fn try_image(
     if listed.len() < n {
         return all;
     }
-    let before = judge::files_of(g, tags, paths, contents);
+    let before = cut::files_of(g, tags, paths, contents);
     try_services(
         g,
         tags,
@@ -711,8 +485,8 @@ fn end_of(text: &[u8], at: usize) -> usize
 
 fn try_all(text: &[u8], listed: &mut [u8], out: &mut [u8]) -> Totals {
     let mut all = Totals {
-        proper: nothing(),
-        impostors: nothing(),
+        proper: cut::nothing(),
+        impostors: cut::nothing(),
     };
     let mut image: u64 = 0;
     let mut at: usize = 0;

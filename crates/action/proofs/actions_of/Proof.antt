@@ -8,7 +8,7 @@ use lib.ListN.{length, set, take, length-set}
 use Rattle.reclaim.specs.declared.Listed.{Listed}
 use Rattle.action.specs.declared.Action.{Action}
 use Rattle.action.specs.Action.{actionOf}
-use Rattle.action.proofs.Laws.{map-on}
+use Rattle.base.proofs.Lists.{map-on}
 use borrow.Author.Needs.{needs}
 use Rattle.action.proofs.actions_of.Statement.{statement}
 use Rattle.action.proofs.actions_of.Tie as tie

@@ -3,10 +3,10 @@
 use Prim.Native.Nat.{ℕ, _≤_, _-_}
 use native.Mathlib.Omega.{arith}
 use mathlib.Core.Path.{_≡_, refl, subst, _∙_}
-use mathlib.Core.List.{map}
+use mathlib.Core.List.{[], map}
 use lib.ListN.{length, take, length-set}
 use Rattle.extent.specs.Rows.{extentOf}
-use Rattle.answer.proofs.Laws.{row-on}
+use Rattle.base.proofs.Lists.{map-on}
 use borrow.Author.Needs.{needs}
 use Rattle.answer.proofs.extents_of.Statement.{statement}
 use Rattle.answer.proofs.extents_of.Tie as tie
@@ -36,7 +36,7 @@ extents-of-spec =
     (λ c. search needs)
     (λ c. let s = c .before .before .before in
     let l = c .before .before .loop in
-    (omega arith, length-set (l .extents) (l .k) _ ∙ l .inv .1, row-on (s .args .rows .now) (l .extents) (l .k) (l .inv .2) (omega arith) (omega arith)))
+    (omega arith, length-set (l .extents) (l .k) _ ∙ l .inv .1, map-on extentOf [] (s .args .rows .now) (l .extents) (l .k) (l .inv .2) (omega arith) (omega arith)))
     (λ c. let s = c .before .before .args in
     let l = c .before .loop in
     let e : l .k ≡ s .n = omega arith in

@@ -1,8 +1,8 @@
--- `cuts::cut_copy` is safe and ends.
+-- `cut::cut_copy` is safe and ends.
 -- Assumes nothing.
 use borrow.Author.Needs.{needs}
-use Rattle.cuts.proofs.cut_copy.Statement.{statement}
-use Rattle.cuts.proofs.cut_copy.Tie as tie
+use Rattle.cut.proofs.cut_copy.Statement.{statement}
+use Rattle.cut.proofs.cut_copy.Tie as tie
 
 pub cut-copy-spec : {M : Type 1} → statement M
 cut-copy-spec =

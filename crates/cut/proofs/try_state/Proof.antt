@@ -1,8 +1,8 @@
--- `cuts::try_state` is safe and ends.
+-- `cut::try_state` is safe and ends.
 -- Assumes nothing.
 use borrow.Author.Needs.{needs}
-use Rattle.cuts.proofs.try_state.Statement.{statement}
-use Rattle.cuts.proofs.try_state.Tie as tie
+use Rattle.cut.proofs.try_state.Statement.{statement}
+use Rattle.cut.proofs.try_state.Tie as tie
 
 pub try-state-spec : {M : Type 1} → statement M
 try-state-spec =

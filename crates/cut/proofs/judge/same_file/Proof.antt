@@ -1,9 +1,9 @@
--- `cuts::judge::same_file` is safe and ends: what is left gets less.
+-- `cut::judge::same_file` is safe and ends: what is left gets less.
 -- Assumes nothing.
 use Prim.Native.Nat.{_-_, _^_, _<_}
 use borrow.Author.Needs.{needs}
-use Rattle.cuts.proofs.judge.same_file.Statement.{statement}
-use Rattle.cuts.proofs.judge.same_file.Tie as tie
+use Rattle.cut.proofs.judge.same_file.Statement.{statement}
+use Rattle.cut.proofs.judge.same_file.Tie as tie
 
 abbrev Inv-loop : tie.InvT-loop
 Inv-loop g tags paths contents cut-tags cut-paths cut-contents path length n x₀ x = n < 2 ^ 32

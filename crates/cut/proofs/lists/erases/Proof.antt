@@ -1,10 +1,10 @@
--- `cuts::lists::erases` is safe and ends: what is left gets less.
+-- `cut::lists::erases` is safe and ends: what is left gets less.
 -- Assumes nothing.
 use Prim.Native.Nat.{_-_, _≤_}
 use Rattle.reclaim.specs.Reclaimed.{Listing}
 use borrow.Author.Needs.{needs}
-use Rattle.cuts.proofs.lists.erases.Statement.{statement}
-use Rattle.cuts.proofs.lists.erases.Tie as tie
+use Rattle.cut.proofs.lists.erases.Statement.{statement}
+use Rattle.cut.proofs.lists.erases.Tie as tie
 
 abbrev Inv-loop : tie.InvT-loop
 Inv-loop blocks n l₀ i₀ l i = (i ≤ n) × Listing 35 l

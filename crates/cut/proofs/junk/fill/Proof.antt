@@ -1,11 +1,11 @@
--- `cuts::junk::fill` is safe and ends: what is left gets less.
+-- `cut::junk::fill` is safe and ends: what is left gets less.
 -- Assumes nothing.
 use Prim.Native.Nat.{_-_}
 use mathlib.Core.Path.{_≡_}
 use lib.ListN.{length}
 use borrow.Author.Needs.{needs}
-use Rattle.cuts.proofs.junk.fill.Statement.{statement}
-use Rattle.cuts.proofs.junk.fill.Tie as tie
+use Rattle.cut.proofs.junk.fill.Statement.{statement}
+use Rattle.cut.proofs.junk.fill.Tie as tie
 
 abbrev Inv-loop : tie.InvT-loop
 Inv-loop part₀ kind i₀ part i = length part ≡ length part₀

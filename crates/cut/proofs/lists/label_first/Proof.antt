@@ -1,10 +1,10 @@
--- `cuts::lists::label_first` is safe and ends: what is left gets less.
+-- `cut::lists::label_first` is safe and ends: what is left gets less.
 -- Assumes nothing.
 use Prim.Native.Nat.{_-_, _≤_}
 use Rattle.reclaim.specs.Reclaimed.{Listing}
 use borrow.Author.Needs.{needs}
-use Rattle.cuts.proofs.lists.label_first.Statement.{statement}
-use Rattle.cuts.proofs.lists.label_first.Tie as tie
+use Rattle.cut.proofs.lists.label_first.Statement.{statement}
+use Rattle.cut.proofs.lists.label_first.Tie as tie
 
 abbrev Inv-loop : tie.InvT-loop
 Inv-loop l n first r₀ i₀ r i = (i ≤ n) × Listing 35 r

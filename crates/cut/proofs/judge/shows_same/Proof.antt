@@ -1,8 +1,8 @@
--- `cuts::judge::shows_same` is safe and ends.
+-- `cut::judge::shows_same` is safe and ends.
 -- Assumes nothing.
 use borrow.Author.Needs.{needs}
-use Rattle.cuts.proofs.judge.shows_same.Statement.{statement}
-use Rattle.cuts.proofs.judge.shows_same.Tie as tie
+use Rattle.cut.proofs.judge.shows_same.Statement.{statement}
+use Rattle.cut.proofs.judge.shows_same.Tie as tie
 
 pub shows-same-spec : {M : Type 1} → statement M
 shows-same-spec =

@@ -1,11 +1,11 @@
--- `cuts::try_step` is safe and ends: what is left gets less.
+-- `cut::try_step` is safe and ends: what is left gets less.
 -- Assumes nothing.
 use Prim.Native.Nat.{_-_}
 use mathlib.Core.Path.{_≡_}
 use lib.ListN.{length}
 use borrow.Author.Needs.{needs}
-use Rattle.cuts.proofs.try_step.Statement.{statement}
-use Rattle.cuts.proofs.try_step.Tie as tie
+use Rattle.cut.proofs.try_step.Statement.{statement}
+use Rattle.cut.proofs.try_step.Tie as tie
 
 abbrev Inv-loop : tie.InvT-loop
 Inv-loop g tags paths contents cut-tags₀ cut-paths₀ cut-contents₀ l k before listed out₀ n t₀ state₀ cut-tags cut-paths cut-contents out t state = (length cut-tags ≡ length cut-tags₀) × (length cut-paths ≡ length cut-paths₀) × (length cut-contents ≡ length cut-contents₀) × (length out ≡ length out₀)
