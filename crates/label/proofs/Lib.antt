@@ -2,5 +2,6 @@
 pub mod Sure
 pub mod Answered
 pub mod Scanned
+pub mod Paths
 pub mod Said
 pub mod Older

@@ -7,6 +7,8 @@ use meaning::Number;
 use meaning::Tag;
 ghost use mathlib.Core.Path.{_≡_};
 ghost use Prim.Native.Nat.{_/_, _%_, min};
+ghost use mathlib.Core.Bool.{_||_};
+ghost use lib.Dec.{eqb};
 ghost use lib.ListN.{length, getD};
 ghost use Rattle.base.specs.Scan.{any};
 ghost use Rattle.meaning.specs.Flash.{addressOf, badPath, badTag, blockSize, byteOf, copyOf, follows, labelsOf, rOf, sameTag, successor, tagOf};
@@ -246,7 +248,29 @@ fn is_labelled(tags: &[u8], paths: &[u64], t: Tag, path: u64, b: Block) -> bool
 
 // ---- the label search
 
-fn has_label(tags: &[u8], paths: &[u64], t: Tag, path: u64) -> bool
+fn or_same(hit: bool, a: u64, b: u64) -> bool
+    ensures { λ x. ⌜ x ≡ (hit || eqb a b) ⌝ }
+{
+    if a == b {
+        return true;
+    }
+    hit
+}
+
+// Whether a path is there at all. The scan has no way out but its end, so the compiler takes several paths at a time.
+fn has_path(paths: &[u64], path: u64) -> bool
+    ensures { λ x. ⌜ x ≡ any (length (now (paths .entry))) (λ i. eqb (getD (now (paths .entry)) i 0) path) ⌝ }
+{
+    let mut hit = false;
+    let mut i = 0;
+    while i < paths.len() {
+        hit = or_same(hit, paths[i], path);
+        i += 1;
+    }
+    hit
+}
+
+fn scan_labels(tags: &[u8], paths: &[u64], t: Tag, path: u64) -> bool
     ensures { λ x. ⌜ x ≡ any (length (now (tags .entry))) (labelled (labelsOf (now (tags .entry)) (now (paths .entry))) t path) ⌝ }
 {
     let mut i = 0;
@@ -255,6 +279,19 @@ fn has_label(tags: &[u8], paths: &[u64], t: Tag, path: u64) -> bool
             return true;
         }
         i += 1;
+    }
+    false
+}
+
+// Few blocks have a newer copy, so the paths alone are looked at first.
+fn has_label(tags: &[u8], paths: &[u64], t: Tag, path: u64) -> bool
+    ensures { λ x. ⌜ x ≡ any (length (now (tags .entry))) (labelled (labelsOf (now (tags .entry)) (now (paths .entry))) t path) ⌝ }
+{
+    if paths.len() < tags.len() {
+        return scan_labels(tags, paths, t, path);
+    }
+    if has_path(paths, path) {
+        return scan_labels(tags, paths, t, path);
     }
     false
 }

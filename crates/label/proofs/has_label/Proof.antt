@@ -1,30 +1,22 @@
 -- `label::has_label` meets its contract.
 -- Assumes nothing.
-use Prim.Native.Nat.{ℕ, _-_}
-use lib.ListN.{length}
-use Rattle.meaning.specs.Flash.{labelsOf}
-use Rattle.label.specs.Search.{labelled}
-use Rattle.label.proofs.Scanned.{Clear, scans}
+use Rattle.label.proofs.Paths.{none-labelled}
 use borrow.Author.Needs.{needs}
 use Rattle.label.proofs.has_label.Statement.{statement}
 use Rattle.label.proofs.has_label.Tie as tie
 
-abbrev Inv-loop : tie.InvT-loop
-Inv-loop tags paths t path i₀ i = Clear (labelled (labelsOf tags paths) t path) i
-
-abbrev μ-loop : tie.MeasureT-loop
-μ-loop tags paths t path i₀ i = length tags - i
+returns-3 : tie.Need-returns-3
+returns-3 c =
+    let s = c .before .before .before .before .before in
+    none-labelled (s .args .tags .now) (s .args .paths .now) _ (s .args .path) (c .before .before .if1 .left) (c .before .has-path .ensures) (c .if2 .left)
 
 pub has-label-spec : {M : Type 1} → statement M
 has-label-spec =
     tie.close
     (tie.spec
-    Inv-loop
-    μ-loop
-    (λ c. search scans)
     (λ c κs. search needs)
-    (λ c. search scans)
     (λ c. search needs)
+    (λ c κs. search needs)
+    (λ c κs. search needs)
     (λ c. search needs)
-    (λ c. search scans)
-    (λ c. search scans))
+    returns-3)
