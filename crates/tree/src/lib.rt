@@ -62,8 +62,23 @@ pub fn bare() -> Tree
         muid: z,
     };
     let s = numbered();
+    let empty = Record {
+        path: 0,
+        parent: 0,
+        perm: 0,
+        length: 0,
+        cvers: 0,
+        mtime: 0,
+        name: z,
+        uid: z,
+        gid: z,
+        muid: z,
+    };
+    // Slots of zeros are filled many bytes at a time.
+    let mut records = [empty; 256];
+    records[0] = r;
     Tree {
-        records: [r; 256],
+        records,
         keys: [0u32; 256],
         slots: s,
         count: 1,

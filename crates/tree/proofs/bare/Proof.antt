@@ -13,4 +13,5 @@ bare-spec =
     tie.close
     (tie.spec
     (λ c κs. search needs)
+    (λ c. search needs)
     (λ c. root-alone _ _ _ refl refl (c .numbered .ensures) refl refl))
