@@ -393,7 +393,8 @@ loop-again-5 c =
 
 mul-h : tie.Need-mul-h Inv-loop μ-loop
 mul-h c =
-    let j = c .before .j in let h = c .before .before .before .find in let c1 = c .before .before .before .before .before .before .before .before in let o = c1 .close-slot in
+    let j = c .before .j in let h = c .before .before .before .find in let c1 = c .before .before .before .before .before .before .before .before in
+    let o = c1 .close-slot in
     let w = c1 .before .before .close-key in let c2 = c1 .before .before .before .before .before .before .before in let x = c2 .extents-after2 in
     let c3 = c2 .before .before .before .before .before .before in let if2 = c3 .if2 in let d = c3 .before .is-dir in
     let enum-told5 = c3 .before .before .enum-told5 in let e = c3 .before .before .before .before .edit-of in
@@ -409,7 +410,8 @@ mul-h c =
 
 element-copy-out-h : tie.Need-element-copy-out-h Inv-loop μ-loop
 element-copy-out-h c =
-    let j = c .before .j in let h = c .before .before .before .find in let c1 = c .before .before .before .before .before .before .before .before in let o = c1 .close-slot in
+    let j = c .before .j in let h = c .before .before .before .find in let c1 = c .before .before .before .before .before .before .before .before in
+    let o = c1 .close-slot in
     let w = c1 .before .before .close-key in let c2 = c1 .before .before .before .before .before .before .before in let x = c2 .extents-after2 in
     let c3 = c2 .before .before .before .before .before .before in let if2 = c3 .if2 in let d = c3 .before .is-dir in
     let enum-told5 = c3 .before .before .enum-told5 in let e = c3 .before .before .before .before .edit-of in
@@ -422,7 +424,8 @@ element-copy-out-h c =
 
 cast-h : tie.Need-cast-h Inv-loop μ-loop
 cast-h c =
-    let j = c .before .before .j in let h = c .before .before .before .before .find in let c1 = c .before .before .before .before .before .before .before .before .before in
+    let j = c .before .before .j in let h = c .before .before .before .before .find in
+    let c1 = c .before .before .before .before .before .before .before .before .before in
     let o = c1 .close-slot in let w = c1 .before .before .close-key in let c2 = c1 .before .before .before .before .before .before .before in
     let x = c2 .extents-after2 in let c3 = c2 .before .before .before .before .before .before in let if2 = c3 .if2 in let d = c3 .before .is-dir in
     let enum-told5 = c3 .before .before .enum-told5 in let e = c3 .before .before .before .before .edit-of in
@@ -438,7 +441,8 @@ cast-h c =
 
 mul-stamped-by : tie.Need-mul-stamped-by Inv-loop μ-loop
 mul-stamped-by c =
-    let j = c .before .before .j in let h = c .before .before .before .before .find in let c1 = c .before .before .before .before .before .before .before .before .before in
+    let j = c .before .before .j in let h = c .before .before .before .before .find in
+    let c1 = c .before .before .before .before .before .before .before .before .before in
     let o = c1 .close-slot in let w = c1 .before .before .close-key in let c2 = c1 .before .before .before .before .before .before .before in
     let x = c2 .extents-after2 in let c3 = c2 .before .before .before .before .before .before in let if2 = c3 .if2 in let d = c3 .before .is-dir in
     let enum-told5 = c3 .before .before .enum-told5 in let e = c3 .before .before .before .before .edit-of in
@@ -454,7 +458,8 @@ mul-stamped-by c =
 
 element-copy-out-stamped-by : tie.Need-element-copy-out-stamped-by Inv-loop μ-loop
 element-copy-out-stamped-by c =
-    let j = c .before .before .j in let h = c .before .before .before .before .find in let c1 = c .before .before .before .before .before .before .before .before .before in
+    let j = c .before .before .j in let h = c .before .before .before .before .find in
+    let c1 = c .before .before .before .before .before .before .before .before .before in
     let o = c1 .close-slot in let w = c1 .before .before .close-key in let c2 = c1 .before .before .before .before .before .before .before in
     let x = c2 .extents-after2 in let c3 = c2 .before .before .before .before .before .before in let if2 = c3 .if2 in let d = c3 .before .is-dir in
     let enum-told5 = c3 .before .before .enum-told5 in let e = c3 .before .before .before .before .edit-of in
@@ -711,7 +716,8 @@ cast-at-2 c =
 
 fresh-requires-2 : tie.Need-fresh-requires-2 Inv-loop μ-loop
 fresh-requires-2 c κs =
-    let o = c .before .before .before .open-slot in let if5 = c .before .before .before .before .before .before .before .if5 in let c1 = c .before .before .before .before .before .before .before .before in
+    let o = c .before .before .before .open-slot in let if5 = c .before .before .before .before .before .before .before .if5 in
+    let c1 = c .before .before .before .before .before .before .before .before in
     let if4 = c1 .if4 in let d = c1 .before .is-dir2 in let u = c1 .before .before .before .before .before .k in
     let c2 = c1 .before .before .before .before .before .before .before in let h = c2 .find2 in let p = c2 .before .before .before .before .q in
     let c3 = c2 .before .before .before .before .before .before in let b = c3 .made-by in let j = c3 .before .before .j2 in
@@ -723,7 +729,8 @@ fresh-requires-2 c κs =
 
 mul-q : tie.Need-mul-q Inv-loop μ-loop
 mul-q c =
-    let o = c .before .before .before .before .before .open-slot in let c1 = c .before .before .before .before .before .before .before .before .before in let if5 = c1 .if5 in
+    let o = c .before .before .before .before .before .open-slot in let c1 = c .before .before .before .before .before .before .before .before .before in
+    let if5 = c1 .if5 in
     let if4 = c1 .before .if4 in let d = c1 .before .before .is-dir2 in let c2 = c1 .before .before .before .before .before .before in let u = c2 .k in
     let h = c2 .before .before .find2 in let c3 = c2 .before .before .before .before .before .before in let p = c3 .q in let b = c3 .before .before .made-by in
     let j = c3 .before .before .before .before .j2 in let c4 = c3 .before .before .before .before .before .before in let f = c4 .find-near in
@@ -738,7 +745,8 @@ mul-q c =
 
 element-set-from-q : tie.Need-element-set-from-q Inv-loop μ-loop
 element-set-from-q c =
-    let o = c .before .before .before .before .before .open-slot in let c1 = c .before .before .before .before .before .before .before .before .before in let if5 = c1 .if5 in
+    let o = c .before .before .before .before .before .open-slot in let c1 = c .before .before .before .before .before .before .before .before .before in
+    let if5 = c1 .if5 in
     let if4 = c1 .before .if4 in let d = c1 .before .before .is-dir2 in let c2 = c1 .before .before .before .before .before .before in let u = c2 .k in
     let h = c2 .before .before .find2 in let c3 = c2 .before .before .before .before .before .before in let p = c3 .q in let b = c3 .before .before .made-by in
     let j = c3 .before .before .before .before .j2 in let c4 = c3 .before .before .before .before .before .before in let f = c4 .find-near in
@@ -770,7 +778,8 @@ loop-less-10 c =
 
 loop-again-10 : tie.Need-loop-again-10 Inv-loop μ-loop
 loop-again-10 c =
-    let z = c .before .fresh2 in let o = c .before .before .before .before .before .open-slot in let w = c .before .before .before .before .before .before .before .open-key in
+    let z = c .before .fresh2 in let o = c .before .before .before .before .before .open-slot in
+    let w = c .before .before .before .before .before .before .before .open-key in
     let c1 = c .before .before .before .before .before .before .before .before .before in let if5 = c1 .if5 in let if4 = c1 .before .if4 in
     let d = c1 .before .before .is-dir2 in let c2 = c1 .before .before .before .before .before .before in let u = c2 .k in let h = c2 .before .before .find2 in
     let c3 = c2 .before .before .before .before .before .before in let p = c3 .q in let b = c3 .before .before .made-by in
