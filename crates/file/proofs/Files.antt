@@ -143,15 +143,6 @@ none-copied g m xs p x buffer = refl
 
 -- ---- numbers
 
-pub past-end : (room len x : ℕ) → len ≤ x → 0 ≡ min room (len - x)
-past-end room len x h = let z : len - x ≡ 0 = omega arith in rw z (sym (min-eq-right zero-le))
-
-pub whole-room : (room len x : ℕ) → room < len - x → room ≡ min room (len - x)
-whole-room room len x h = sym (min-eq-left (omega arith))
-
-pub to-end : (room len x : ℕ) → len - x ≤ room → len - x ≡ min room (len - x)
-to-end room len x h = sym (min-eq-right h)
-
 pub min-most : (room len x n : ℕ) → n ≡ min room (len - x) → (n ≤ room) × (n ≤ len - x)
 min-most room len x n e = (omega arith, omega arith)
 

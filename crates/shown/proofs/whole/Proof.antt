@@ -16,4 +16,4 @@ whole-spec =
     (λ c κs. tags-few _ _ _ (c .before .before .before .before .before .pre .0))
     (λ c κs. c .before .before .before .before .before .before .pre .0)
     (λ c κs. c .before .before .before .before .before .before .before .pre .1)
-    (λ c. let s = c .before .before .before .before .before .before .before .before in (refl, refl, whole-mounted _ _ _ (s .pre .0) (s .args .r) (s .args .xs .now) (s .pre .2) (c .in-order .result) (c .before .before .before .before .used-bits .ensures) (c .before .before .erase-list .ensures) (c .before .insertion .ensures) (c .in-order .ensures), whole-sizes _ _ _ (s .pre .0) (s .args .r) (s .args .xs .now) (s .pre .2) (c .in-order .result) (c .before .before .before .before .used-bits .ensures) (c .before .before .erase-list .ensures) (c .before .insertion .ensures) (c .in-order .ensures) (s .pre .1) (s .pre .3) (s .pre .4))))
+    (λ c. let s = c .before .before .before .before .before .before .before .before in (refl, omega arith, whole-mounted _ _ _ (s .pre .0) (s .args .r) (s .args .xs .now) (s .pre .2) (c .in-order .result) (c .before .before .before .before .used-bits .ensures) (c .before .before .erase-list .ensures) (c .before .insertion .ensures) (c .in-order .ensures), whole-sizes _ _ _ (s .pre .0) (s .args .r) (s .args .xs .now) (s .pre .2) (c .in-order .result) (c .before .before .before .before .used-bits .ensures) (c .before .before .erase-list .ensures) (c .before .insertion .ensures) (c .in-order .ensures) (s .pre .1) (s .pre .3) (s .pre .4))))
