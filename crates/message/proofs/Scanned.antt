@@ -5,8 +5,10 @@ use mathlib.Core.Bool.{Bool, true, false, _&&_}
 use mathlib.Core.List.{List, [], _∷_}
 use Prim.Native.Nat.{ℕ, zero, suc, _+_, _≤_, _<_, zero-le, suc-le-suc}
 use native.Mathlib.Nat.{le-of-suc-le-suc, not-suc-le-zero, lt-of-lt-of-le}
+use native.Mathlib.Numerals.{add-one}
 use native.Mathlib.Omega.{arith}
-use lib.ListN.{length, getD}
+use lib.ListN.{length, getD, take}
+use lib.Seq.{take-length}
 use borrow.Author.Count.{below-none, below-more}
 use borrow.Author.Tests.{eq-eqb, ne-eqb, not-true, not-false}
 use Rattle.base.specs.Scan.{allOf}
@@ -46,3 +48,37 @@ pub told : {x : Bool} (b t : Bool) → x ≡ b → x ≡ t → b ≡ t
 told b t f e = sym f ∙ e
 
 pub ruleset scans = (scan-none, scan-more, scan-all, scan-stop, eq-eqb, ne-eqb, told, not-true, not-false)
+
+-- ---- a loop with no way out but its end
+
+and-true : (a : Bool) → (a && true) ≡ a
+and-true true = refl
+and-true false = refl
+
+and-and : (a b c : Bool) → (a && (b && c)) ≡ ((a && b) && c)
+and-and true b c = refl
+and-and false b c = refl
+
+one-more : (f : ℕ → Bool) (l : List ℕ) (i : ℕ) → i < length l → allOf f (take (suc i) l) ≡ (allOf f (take i l) && f (getD l i 0))
+unfolding allOf
+one-more f [] i p = absurd (not-suc-le-zero p)
+one-more f (x ∷ xs) zero p = and-true (f x)
+one-more f (x ∷ xs) (suc i) p = rw (one-more f xs i (le-of-suc-le-suc p)) (and-and (f x) _ _)
+
+pub and-yes : (h : Bool) {t : Bool} → t ≡ true → h ≡ (h && t)
+and-yes true e = sym e
+and-yes false e = refl
+
+pub and-no : (h : Bool) {t : Bool} → t ≡ false → false ≡ (h && t)
+and-no true e = sym e
+and-no false e = refl
+
+pub all-none : (f : ℕ → Bool) (l : List ℕ) → true ≡ allOf f (take 0 l)
+unfolding allOf
+all-none f l = refl
+
+pub all-more : (f : ℕ → Bool) (l : List ℕ) (i : ℕ) {h v : Bool} → i < length l → h ≡ allOf f (take i l) → v ≡ (h && f (getD l i 0)) → v ≡ allOf f (take (i + 1) l)
+all-more f l i p e g = g ∙ rw (add-one, e) (sym (one-more f l i p))
+
+pub all-done : (f : ℕ → Bool) (l : List ℕ) (i : ℕ) {h : Bool} → i ≤ length l → length l ≤ i → h ≡ allOf f (take i l) → h ≡ allOf f l
+all-done f l i p q e = let n : i ≡ length l = omega arith in rw (n, take-length l) at e

@@ -6,7 +6,9 @@ use meaning::Message;
 use meaning::Parsed;
 use meaning::Place;
 ghost use mathlib.Core.Path.{_≡_};
+ghost use mathlib.Core.Bool.{_&&_};
 ghost use Prim.Native.Nat.{_+_, _-_, _^_, _≤_, _<_};
+ghost use lib.Dec.{eqb};
 ghost use lib.ListN.{length, getD, take, drop};
 ghost use Rattle.meaning.specs.Flash.{blank, blockSize};
 ghost use Rattle.meaning.specs.Message.{u16 as le16, u32 as le32, string, past, placeAt, barred, dots, goodName, inLog, goodEmbedded, goodRun, goodData, createAt, removeAt, truncateAt, writeAt, wstatAt, typed, parse as theParse};
@@ -69,18 +71,38 @@ pub fn past_at(s: &[u8], i: usize) -> usize
 
 // ---- pages and names
 
-/// Whether a page is blank. It stops at the first other byte.
+fn and_ones(same: bool, b: u8) -> bool
+    ensures { λ r. ⌜ r ≡ (same && eqb b 0xff) ⌝ }
+{
+    if b == 0xff {
+        return same;
+    }
+    false
+}
+
+// The scan has no way out but its end, so the compiler takes many bytes at a time.
+fn all_ones(page: &[u8]) -> bool
+    ensures { λ r. ⌜ r ≡ blank (now (page .entry)) ⌝ }
+{
+    let mut same = true;
+    let mut i = 0;
+    while i < page.len() {
+        same = and_ones(same, page[i]);
+        i += 1;
+    }
+    same
+}
+
+/// Whether a page is blank. A written page is told by its first byte.
 pub fn is_blank(page: &[u8]) -> bool
     ensures { λ r. ⌜ r ≡ blank (now (page .entry)) ⌝ }
 {
-    let mut i = 0;
-    while i < page.len() {
-        if page[i] != 0xff {
+    if 0 < page.len() {
+        if page[0] != 0xff {
             return false;
         }
-        i += 1;
     }
-    true
+    all_ones(page)
 }
 
 fn is_plain(c: u8) -> bool
