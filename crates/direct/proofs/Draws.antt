@@ -1,10 +1,11 @@
 -- The rows drawn one over the other, as the loop draws them.
-use Prim.Native.Nat.{ℕ, zero, suc, _+_, _-_, _≤_, _<_, min}
-use mathlib.Core.Path.{_≡_, refl, sym, ap, _∙_}
+use Prim.Native.Nat.{ℕ, zero, suc, _+_, _-_, _^_, _≤_, _<_, min}
+use mathlib.Core.Path.{_≡_, refl, sym, ap, subst, _∙_}
 use mathlib.Core.Bool.{Bool, true, false}
 use mathlib.Core.List.{List, [], _++_}
 use native.Mathlib.Omega.{arith}
 use lib.ListN.{length, getD, drop, replicate}
+use lib.Seq.{take-length}
 use Rattle.base.specs.Choice.{ifTrue}
 use Rattle.base.proofs.Choices.{less-yes, less-no}
 use Rattle.meaning.specs.declared.Extent.{Extent}
@@ -12,10 +13,15 @@ use Rattle.meaning.specs.declared.Record.{Record}
 use Rattle.meaning.specs.declared.Refusal.the-variants as refused
 use Rattle.meaning.specs.Answer.{Answer, ok, no}
 use Rattle.meaning.specs.Replay.{spot, start, end, bit31, isDir}
-use Rattle.extent.specs.Rows.{extentOf}
+use Rattle.extent.specs.Rows.{extentOf, runs, Within, Split}
+use Rattle.extent.proofs.Halves.{halves-split}
 use Rattle.read.specs.Pieces.{larger}
 use Rattle.read.proofs.Draws.{larger-least}
 use Rattle.direct.specs.Direct.{below, laid, over, drawnFrom, answered, bufferWith}
+
+-- over rows in order, the search parts them
+pub below-splits : (rows : List (List ℕ)) (k : ℕ) → Within 0 (2 ^ 64) rows → Split k (runs rows (length rows)) (below rows k)
+below-splits rows k w = halves-split rows (length rows) k (omega arith) (subst (Within 0 (2 ^ 64)) (sym (take-length rows)) w)
 
 module _ (c : List ℕ) (rows : List (List ℕ)) (begins : List ℕ) (k n : ℕ) where
   -- from row j up to row `last`

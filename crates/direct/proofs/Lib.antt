@@ -1,5 +1,4 @@
 -- Laws of the direct read.
-pub mod Halves
 pub mod Lays
 pub mod Begun
 pub mod Places

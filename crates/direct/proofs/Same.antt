@@ -45,7 +45,7 @@ use Rattle.read.proofs.Draws.{larger-least}
 use Rattle.read.proofs.Stretch.{stretch-take, stretch-drop}
 use Rattle.direct.specs.Begins.{beginOf, beginsOf, begun, placeOf, placesAfter, stands}
 use Rattle.direct.specs.Direct.{put, laid, below, over, drawnFrom, answered, bufferWith}
-use Rattle.direct.proofs.Halves.{below-splits}
+use Rattle.direct.proofs.Draws.{below-splits}
 use Rattle.direct.proofs.Places.{begins-at, begins-long}
 
 -- ---- a part of a run is a part of the contents

@@ -1,5 +1,5 @@
 -- A read from where the runs begin: what it answers and what the buffer holds, whatever the rows and the places are.
-use Prim.Native.Nat.{ℕ, zero, suc, _+_, _-_, _/_, min}
+use Prim.Native.Nat.{ℕ, zero, suc, _+_, _-_, min}
 use mathlib.Core.List.{List, [], _++_}
 use lib.ListN.{length, getD, take, drop, replicate}
 use Rattle.base.specs.Choice.{ifTrue, ifLess}
@@ -9,6 +9,7 @@ use Rattle.meaning.specs.declared.Refusal.the-variants as refused
 use Rattle.meaning.specs.Answer.{Answer, ok, no}
 use Rattle.meaning.specs.Replay.{spot, start, end, isDir}
 use Rattle.extent.specs.Rows.{extentOf}
+use Rattle.extent.specs.Halves.{byHalves}
 use Rattle.read.specs.Pieces.{larger}
 
 -- ---- a run
@@ -27,18 +28,9 @@ laid c k n e begin b =
 
 -- ---- the rows
 
--- the search by halves for the first row that does not start before k: it is from lo on, after at most `left` rows
-unfoldable pub halved : ℕ → List (List ℕ) → ℕ → ℕ → ℕ → ℕ
-halved zero rows k lo left = lo
-halved (suc fuel) rows k lo left =
-    ifLess 0 left
-    (ifLess (start (extentOf (getD rows (lo + (left - left / 2) - 1) []))) k
-    (halved fuel rows k (lo + (left - left / 2)) (left - (left - left / 2)))
-    (halved fuel rows k lo (left - (left - left / 2))))
-    lo
-
-unfoldable pub below : List (List ℕ) → ℕ → ℕ
-below rows k = halved (length rows) rows k 0 (length rows)
+-- the first row that does not start before k, as the search finds it
+abbrev pub below : List (List ℕ) → ℕ → ℕ
+below rows k = byHalves rows (length rows) k
 
 -- m rows from row j on, one over the other
 unfoldable pub over : List ℕ → List (List ℕ) → List ℕ → ℕ → ℕ → ℕ → ℕ → List ℕ → List ℕ

@@ -13,7 +13,7 @@ ghost use Rattle.log.specs.Cursor.{Ready};
 ghost use Rattle.replay.specs.Replay.{answerBy};
 ghost use Rattle.file.specs.File.{answer};
 ghost use Rattle.direct.specs.Begins.{begin as theBegin, beginOf, beginsOf, begun, placeOf, placesAfter, stands};
-ghost use Rattle.direct.specs.Direct.{answered, below as theBelow, bufferWith, drawnFrom, laid, put as thePut};
+ghost use Rattle.direct.specs.Direct.{answered, bufferWith, drawnFrom, laid, put as thePut};
 use file::Outcome;
 use label::Found;
 use meaning::Geometry;
@@ -164,23 +164,6 @@ pub fn begins(
 
 // ---- a read from there
 
-// How many rows start before key, where the rows are in order; for any other rows, what the search by halves makes of them.
-fn below(rows: &[[u32; 4]], key: u64) -> usize
-    ensures { λ r. ⌜ (r ≡ theBelow (now (rows .entry)) key) × (r ≤ length (now (rows .entry))) ⌝ }
-{
-    let mut lo: usize = 0;
-    let mut left = rows.len();
-    while 0 < left {
-        let half = left - left / 2;
-        let r = rows[lo + half - 1];
-        left -= half;
-        if extent::start_of(r) < key {
-            lo += half;
-        }
-    }
-    lo
-}
-
 // What a run that starts at s, and at begin in the contents, has from one byte up to another, into the buffer that holds the bytes
 // from key on. Where that reaches past the contents, nothing is put: no mount has such a run.
 fn put(contents: &[u8], key: u64, s: u64, begin: u32, from: u64, to: u64, buffer: &mut [u8])
@@ -229,8 +212,8 @@ fn draw(
 {
     read::clear(&mut buffer[0..n]);
     let key = read::spot(path, x);
-    let low = below(xs, key);
-    let last = below(xs, key + n as u64);
+    let low = extent::by_halves(xs, xs.len(), key);
+    let last = extent::by_halves(xs, xs.len(), key + n as u64);
     let mut j = low - read::lesser(low as u64, 1) as usize;
     while j < last {
         let row = xs[j];

@@ -5,6 +5,7 @@ ghost use mathlib.Core.List.{[], _∷_, _++_, map};
 ghost use Prim.Native.Nat.{_+_, _-_, _*_, _^_, _≤_, _<_};
 ghost use lib.ListN.{length, take, drop};
 ghost use Rattle.meaning.specs.Replay.{start, end, front, back, before, after, lay};
+ghost use Rattle.extent.specs.Halves.{byHalves};
 ghost use Rattle.extent.specs.Rows.{extentOf, rowOf, runs, Sound, Within, Layable, Split, Low, Ranged, pieces, moved, around};
 
 // A row, or none.
@@ -99,10 +100,11 @@ pub fn move_rows(rows: &mut [[u32; 4]], n: usize, q: usize, m: usize)
     }
 }
 
-// How many of the first n rows start before key. Each turn halves what is left whatever the row says, so no turn waits on a guess.
-fn below_by_halves(rows: &[[u32; 4]], n: usize, key: u64) -> usize
-    requires { ⌜ (n ≤ length (now rows)) × Within 0 (2 ^ 64) (take n (now rows)) ⌝ }
-    ensures { λ r. ⌜ Split key (runs (now (rows .entry)) n) r ⌝ }
+/// The search by halves among the first n rows, in whatever order they are. Each turn halves what is left whatever the row says, so
+/// no turn waits on a guess.
+pub fn by_halves(rows: &[[u32; 4]], n: usize, key: u64) -> usize
+    requires { ⌜ n ≤ length (now rows) ⌝ }
+    ensures { λ r. ⌜ (r ≡ byHalves (now (rows .entry)) n key) × (r ≤ n) ⌝ }
 {
     let mut lo: usize = 0;
     let mut left = n;
@@ -117,7 +119,7 @@ fn below_by_halves(rows: &[[u32; 4]], n: usize, key: u64) -> usize
     lo
 }
 
-// The same. Most runs are laid past the last row, so that one is looked at first.
+// How many of the first n rows start before key. Most runs are laid past the last row, so that one is looked at first.
 pub fn below(rows: &[[u32; 4]], n: usize, key: u64) -> usize
     requires { ⌜ (n ≤ length (now rows)) × Within 0 (2 ^ 64) (take n (now rows)) ⌝ }
     ensures { λ r. ⌜ Split key (runs (now (rows .entry)) n) r ⌝ }
@@ -129,7 +131,7 @@ pub fn below(rows: &[[u32; 4]], n: usize, key: u64) -> usize
     if start_of(last) < key {
         return n;
     }
-    below_by_halves(rows, n, key)
+    by_halves(rows, n, key)
 }
 
 // The same where the first p do: a run ends a few rows after it starts, so one by one.

@@ -35,10 +35,10 @@ draw-spec =
     (λ c κs. search needs)
     (λ c. omega (arith, c .lesser .ensures))
     (λ c. (refl, refl))
-    (λ c. omega (arith, c .before .before .before .below2 .ensures .1))
-    (λ c. omega (arith, c .before .before .before .below2 .ensures .1))
-    (λ c. omega (arith, c .before .before .before .before .below2 .ensures .1))
-    (λ c. omega (arith, c .before .before .before .before .before .below2 .ensures .1))
+    (λ c. omega (arith, c .before .before .before .by-halves2 .ensures .1))
+    (λ c. omega (arith, c .before .before .before .by-halves2 .ensures .1))
+    (λ c. omega (arith, c .before .before .before .before .by-halves2 .ensures .1))
+    (λ c. omega (arith, c .before .before .before .before .before .by-halves2 .ensures .1))
     (λ c κs. let s = c .before .before .before .before .before .before .before .before .before .before .before .before .before .before .before .before in
     let z = cleared-long _ (now (s .args .buffer)) (s .pre .1) (cleared _ _ (s .pre .1) (c .before .before .before .before .before .before .before .before .before .before .before .clear .ensures)) in
     (omega (arith, z, c .before .before .before .before .loop .inv .0, s .pre .1), spot-low (s .args .path) (s .args .x) (s .args .n) (c .before .before .before .before .before .before .before .before .spot .ensures) (omega arith) (s .pre .2)))
@@ -52,5 +52,5 @@ draw-spec =
     let l = c .before .loop in
     subst (λ (k : ℕ). l .buffer ≡ drawnFrom (now (s .args .contents)) (now (s .args .xs)) (now (s .args .begins)) k (s .args .n) (now (s .args .buffer)))
     (c .before .before .before .before .before .spot .ensures)
-    (drawn-is _ _ _ _ _ (c .before .before .before .before .below .ensures .0) (c .before .before .before .below2 .ensures .0) (omega (arith, c .before .before .lesser .ensures)) (now (s .args .buffer))
+    (drawn-is _ _ _ _ _ (c .before .before .before .before .by-halves .ensures .0) (c .before .before .before .by-halves2 .ensures .0) (omega (arith, c .before .before .lesser .ensures)) (now (s .args .buffer))
     (cleared _ _ (s .pre .1) (c .before .before .before .before .before .before .before .before .clear .ensures)) (over-end _ _ _ _ _ _ (l .j) (c .loop-test .left) _ _ (l .inv .1)))))
