@@ -5,3 +5,5 @@ pub mod Scanned
 pub mod Paths
 pub mod Said
 pub mod Older
+pub mod Noted
+pub mod Passed

@@ -52,7 +52,7 @@ any-and : (n : ℕ) (b : Bool) (p : ℕ → Bool) → any n (λ j. b && p j) ≡
 any-and n true p = refl
 any-and n false p = never n
 
-older-label : (n : ℕ) (m : Labels) (i : ℕ) → older n m i ≡ (not (sameTag (m .tag i) Free) && any n (labelled m (m .tag i) (newerPath (m .path i))))
+pub older-label : (n : ℕ) (m : Labels) (i : ℕ) → older n m i ≡ (not (sameTag (m .tag i) Free) && any n (labelled m (m .tag i) (newerPath (m .path i))))
 unfolding older
 older-label n m i = any-cong n _ _ (λ j l. newer-label m j i) ∙ any-and n (not (sameTag (m .tag i) Free)) (labelled m (m .tag i) (newerPath (m .path i)))
 

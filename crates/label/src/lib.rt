@@ -6,14 +6,14 @@ use meaning::Geometry;
 use meaning::Number;
 use meaning::Tag;
 ghost use mathlib.Core.Path.{_≡_};
-ghost use Prim.Native.Nat.{_/_, _%_, min};
+ghost use Prim.Native.Nat.{_/_, _%_, _<_, min};
 ghost use mathlib.Core.Bool.{_||_};
 ghost use lib.Dec.{eqb};
 ghost use lib.ListN.{length, getD};
 ghost use Rattle.base.specs.Scan.{any};
 ghost use Rattle.meaning.specs.Flash.{addressOf, badPath, badTag, blockSize, byteOf, copyOf, follows, labelsOf, rOf, sameTag, successor, tagOf};
 ghost use Rattle.meaning.specs.Labels.{counts as theCounts, find as theFind, findData, is, older, view};
-ghost use Rattle.label.specs.Search.{bears as theBears, found, labelled, newerPath};
+ghost use Rattle.label.specs.Search.{bears as theBears, found, labelled, newerPath, Next, Noted, Olders};
 
 /// A copy generation or a log generation, counted mod 4.
 pub struct Generation(pub u8);
@@ -309,6 +309,58 @@ pub fn is_older(tags: &[u8], paths: &[u64], b: Block) -> bool
     has_label(tags, paths, t, own.newer_path())
 }
 
+// The low bits of a path, as a place among 1024.
+fn low_bits(path: u64) -> usize
+    ensures { λ x. ⌜ (x ≡ path % 1024) × (x < 1024) ⌝ }
+{
+    (path % 1024) as usize
+}
+
+/// A mark at the low bits of each path.
+pub fn note_paths(paths: &[u64]) -> [bool; 1024]
+    ensures { λ x. ⌜ Noted (now (paths .entry)) (length (now (paths .entry))) x ⌝ }
+{
+    let mut marks = [false; 1024];
+    let mut k = 0;
+    while k < paths.len() {
+        let low = low_bits(paths[k]);
+        marks[low] = true;
+        k += 1;
+    }
+    marks
+}
+
+// The newer copy's path has its mark, so for most blocks there is no scan.
+fn is_older_noted(tags: &[u8], paths: &[u64], marks: &[bool; 1024], b: Block) -> bool
+    requires { ⌜ Noted (now paths) (length (now paths)) (now marks) ⌝ }
+    ensures { λ x. ⌜ x ≡ older (length (now (tags .entry))) (labelsOf (now (tags .entry)) (now (paths .entry))) (b .0) ⌝ }
+{
+    if tags.len() <= paths.len() {
+        let low = low_bits(label_at(tags, paths, b).newer_path());
+        if !marks[low] {
+            return false;
+        }
+    }
+    is_older(tags, paths, b)
+}
+
+/// Which of the first 1024 blocks are older copies.
+pub fn olders(tags: &[u8], paths: &[u64]) -> [bool; 1024]
+    ensures { λ x. ⌜ Olders (length (now (tags .entry))) (labelsOf (now (tags .entry)) (now (paths .entry))) (length (now (tags .entry))) x ⌝ }
+{
+    let marks = note_paths(paths);
+    let mut flags = [false; 1024];
+    let mut i = 0;
+    while i < 1024 {
+        if tags.len() <= i {
+            return flags;
+        }
+        flags[i] = is_older_noted(tags, paths, &marks, Block(i));
+        i += 1;
+    }
+    flags
+}
+
 /// Whether block b counts among the blocks of tag t. The scan for a newer copy comes last.
 pub fn counts(tags: &[u8], paths: &[u64], t: Tag, b: Block) -> bool
     ensures { λ x. ⌜ x ≡ theCounts (length (now (tags .entry))) (labelsOf (now (tags .entry)) (now (paths .entry))) t (b .0) ⌝ }
@@ -323,8 +375,23 @@ pub fn counts(tags: &[u8], paths: &[u64], t: Tag, b: Block) -> bool
     !is_older(tags, paths, b)
 }
 
-/// Whether block b stands for r among the blocks of tag t.
-pub fn stands_for(tags: &[u8], paths: &[u64], t: Tag, r: u64, b: Block) -> bool
+/// `counts`, where the paths' marks are at hand.
+pub fn counts_noted(tags: &[u8], paths: &[u64], marks: &[bool; 1024], t: Tag, b: Block) -> bool
+    requires { ⌜ Noted (now paths) (length (now paths)) (now marks) ⌝ }
+    ensures { λ x. ⌜ x ≡ theCounts (length (now (tags .entry))) (labelsOf (now (tags .entry)) (now (paths .entry))) t (b .0) ⌝ }
+{
+    let i = b.0;
+    if tags.len() <= i {
+        return false;
+    }
+    if !is_tag(tags, paths, t, b) {
+        return false;
+    }
+    !is_older_noted(tags, paths, marks, b)
+}
+
+// Whether block b stands for r among the blocks of tag t.
+fn stands_for(tags: &[u8], paths: &[u64], t: Tag, r: u64, b: Block) -> bool
     ensures { λ x. ⌜ x ≡ is (view (length (now (tags .entry))) (labelsOf (now (tags .entry)) (now (paths .entry))) t (b .0)) r ⌝ }
 {
     if path_at(tags, paths, b) / 4 != r {
@@ -339,8 +406,7 @@ pub enum Found {
     Nothing,
 }
 
-/// The block that stands for r among the blocks of tag t.
-pub fn find(tags: &[u8], paths: &[u64], t: Tag, r: u64) -> Found
+fn scan_blocks(tags: &[u8], paths: &[u64], t: Tag, r: u64) -> Found
     ensures { λ x. ⌜ x ≡ found (theFind (length (now (tags .entry))) (view (length (now (tags .entry))) (labelsOf (now (tags .entry)) (now (paths .entry))) t) r) ⌝ }
 {
     let mut i = 0;
@@ -349,6 +415,37 @@ pub fn find(tags: &[u8], paths: &[u64], t: Tag, r: u64) -> Found
             return Found::At(Block(i));
         }
         i += 1;
+    }
+    Found::Nothing
+}
+
+// The first place from `from` on whose path is of r, or one past all paths.
+fn next_of(paths: &[u64], r: u64, from: usize) -> usize
+    ensures { λ x. ⌜ Next (now (paths .entry)) r from x ⌝ }
+{
+    let mut i = from;
+    while i < paths.len() {
+        if paths[i] / 4 == r {
+            return i;
+        }
+        i += 1;
+    }
+    i
+}
+
+/// The block that stands for r among the blocks of tag t. Few blocks are of r, so the paths alone are looked at for the next.
+pub fn find(tags: &[u8], paths: &[u64], t: Tag, r: u64) -> Found
+    ensures { λ x. ⌜ x ≡ found (theFind (length (now (tags .entry))) (view (length (now (tags .entry))) (labelsOf (now (tags .entry)) (now (paths .entry))) t) r) ⌝ }
+{
+    if paths.len() < tags.len() {
+        return scan_blocks(tags, paths, t, r);
+    }
+    let mut i = next_of(paths, r, 0);
+    while i < tags.len() {
+        if counts(tags, paths, t, Block(i)) {
+            return Found::At(Block(i));
+        }
+        i = next_of(paths, r, i + 1);
     }
     Found::Nothing
 }

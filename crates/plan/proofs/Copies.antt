@@ -82,7 +82,7 @@ module _ (m : Labels) where
     bad-by j k hj hk d s u a =
         any-intro n _ j hj (and-i (sameBlock m i j) _ (→same i j s) (any-intro n (clash m j) k hk (→clash j k d (between i j k s u) a)))
 
-    fine-by : ((j k : ℕ) → j < n → k < n → j ≢ k → Same i j → Same i k → T (apart m j k) → ⊥) → T (unresolved n m i) → ⊥
+    pub fine-by : ((j k : ℕ) → j < n → k < n → j ≢ k → Same i j → Same i k → T (apart m j k) → ⊥) → T (unresolved n m i) → ⊥
     unfolding unresolved
     fine-by f t =
         let x : Found n (λ j. sameBlock m i j && any n (clash m j)) = any-elim _ _ t in

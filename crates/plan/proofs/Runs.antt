@@ -55,7 +55,10 @@ module _ (n : ℕ) (v : ℕ → Option ℕ) (g bound : ℕ) where
         let s : unbroken n v g bound from n ≡ c + unbroken n v g bound k (suc (n - (c + 1))) = rw z at (h .rest) in
         record { rest = omega (arith, goes-on k (n - (c + 1)) l e f) }
 
-pub ruleset runs = (run-start, run-past, run-gap, run-all, run-more, not-true, not-false)
+  pub run-none : (from : ℕ) → bound ≤ from → 0 ≡ unbroken n v g bound from n
+  run-none from l = run-past from 0 from (run-start from) l
+
+pub ruleset runs = (run-start, run-none, run-past, run-gap, run-all, run-more, not-true, not-false)
 
 -- the plan's parts are the definition's; the swept log is counted up to the active log's first number
 pub plan-is : {g h a b bound : ℕ} {s : Number} (n : ℕ) (m : Labels) → g ≡ activeGeneration n (view n m Log) → s .0 ≡ lowestNumber n (view n m Log) g → h ≡ successor g

@@ -9,15 +9,15 @@ use meaning::Plan;
 use meaning::Refusal;
 use meaning::Tag;
 ghost use mathlib.Core.Path.{_≡_};
-ghost use Prim.Native.Nat.{_<_};
+ghost use Prim.Native.Nat.{_+_, _*_, _≤_, _<_, min};
 ghost use lib.ListN.{length};
 ghost use Rattle.base.specs.Choice.{test};
 ghost use Rattle.base.specs.Scan.{first};
 ghost use Rattle.meaning.specs.declared.Tag.the-variants as means;
 ghost use Rattle.meaning.specs.Flash.{goodPages, goodSize, badPath, badTag, copyOf, fits as theFits, goodGeometry, labelsOf, logR, successor};
 ghost use Rattle.meaning.specs.Labels.{ofGeneration, unplaced, activeGeneration, badLog, bootGap, dropped, find as theFind, gap, generationAt, has as theHas, hasGeneration, inActive, inSwept, leads as theLeads, logPlan, lowestNumber, placed as thePlaced, stray as theStray, unbroken as theUnbroken, unresolved, view};
-ghost use Rattle.label.specs.Search.{found};
-ghost use Rattle.plan.specs.Ask.{apart, bearer, lower};
+ghost use Rattle.label.specs.Search.{found, Noted};
+ghost use Rattle.plan.specs.Ask.{apart, bearer, lowBits, lower, NumberFrom, Numbers, Tallied};
 ghost use Rattle.plan.specs.Select.{lent, selected};
 
 // ---- GEOMETRY
@@ -187,13 +187,59 @@ fn is_unresolved(tags: &[u8], paths: &[u64], b: Block) -> bool
     are_apart(tags, paths, one, two)
 }
 
+// The low bits of a path's r, as a place among 1024.
+fn low_bits(path: u64) -> usize
+    ensures { λ x. ⌜ (x ≡ lowBits path) × (x < 1024) ⌝ }
+{
+    (path / 4 % 1024) as usize
+}
+
+// One more, up to 2: more than that is not told apart.
+fn up_to_two(count: u8) -> u8
+    ensures { λ x. ⌜ x ≡ min (count + 1) 2 ⌝ }
+{
+    if count < 1 {
+        return 1;
+    }
+    2
+}
+
+// How many of the paths have the same low bits of r, up to 2.
+fn tally(paths: &[u64]) -> [u8; 1024]
+    ensures { λ x. ⌜ Tallied (now (paths .entry)) (length (now (paths .entry))) x ⌝ }
+{
+    let mut counts = [0; 1024];
+    let mut k = 0;
+    while k < paths.len() {
+        let low = low_bits(paths[k]);
+        counts[low] = up_to_two(counts[low]);
+        k += 1;
+    }
+    counts
+}
+
+// Copies have the same r, so a block that has its low bits alone is not looked for. A block past the end of the paths has no count.
+fn is_clashing(tags: &[u8], paths: &[u64], counts: &[u8; 1024], b: Block) -> bool
+    requires { ⌜ Tallied (now paths) (length (now paths)) (now counts) ⌝ }
+    ensures { λ x. ⌜ x ≡ unresolved (length (now (tags .entry))) (labelsOf (now (tags .entry)) (now (paths .entry))) (b .0) ⌝ }
+{
+    if tags.len() <= paths.len() {
+        let low = low_bits(label::path_at(tags, paths, b));
+        if counts[low] < 2 {
+            return false;
+        }
+    }
+    is_unresolved(tags, paths, b)
+}
+
 fn bad_copies(tags: &[u8], paths: &[u64]) -> Found
     ensures { λ x. ⌜ x ≡ found (first (length (now (tags .entry))) (unresolved (length (now (tags .entry))) (labelsOf (now (tags .entry)) (now (paths .entry))))) ⌝ }
 {
+    let counts = tally(paths);
     let mut i = 0;
     while i < tags.len() {
         let next = i + 1;
-        if is_unresolved(tags, paths, Block(i)) {
+        if is_clashing(tags, paths, &counts, Block(i)) {
             let lowest = Block(i);
             return Found::At(lowest);
         }
@@ -326,17 +372,86 @@ fn lowest_number(tags: &[u8], paths: &[u64], g: Generation) -> Number
     Number(0)
 }
 
+// How far the number of log block b lies above `from` in generation g; 1024 where b is not of g, lies elsewhere or does not count.
+fn number_from(
+    tags: &[u8],
+    paths: &[u64],
+    marks: &[bool; 1024],
+    g: Generation,
+    from: u32,
+    b: Block,
+) -> usize
+    requires { ⌜ Noted (now paths) (length (now paths)) (now marks) ⌝ }
+    ensures { λ x. ⌜ (x ≤ 1024) × NumberFrom (g .0) from ((view (length (now (tags .entry))) (labelsOf (now (tags .entry)) (now (paths .entry))) means.Log) (b .0)) x ⌝ }
+{
+    let r = label::path_at(tags, paths, b) / 4;
+    let low = from as u64 * 4 + g.0 as u64;
+    if r < low {
+        return 1024;
+    }
+    if (r - low) % 4 != 0 {
+        return 1024;
+    }
+    let above = (r - low) / 4;
+    if 1024 <= above {
+        return 1024;
+    }
+    if !label::counts_noted(tags, paths, marks, Tag::Log, b) {
+        return 1024;
+    }
+    above as usize
+}
+
+// Which of the 1024 numbers from `from` up generation g has: one pass over the blocks. The last place takes the other blocks.
+fn numbers_from(tags: &[u8], paths: &[u64], g: Generation, from: u32) -> [bool; 1025]
+    ensures { λ x. ⌜ Numbers (view (length (now (tags .entry))) (labelsOf (now (tags .entry)) (now (paths .entry))) means.Log) (g .0) from (length (now (tags .entry))) x ⌝ }
+{
+    let marks = label::note_paths(paths);
+    let mut numbers = [false; 1025];
+    let mut i = 0;
+    while i < tags.len() {
+        let above = number_from(tags, paths, &marks, g, from, Block(i));
+        numbers[above] = true;
+        i += 1;
+    }
+    numbers
+}
+
+fn has_number(
+    tags: &[u8],
+    paths: &[u64],
+    numbers: &[bool; 1025],
+    g: Generation,
+    from: u32,
+    k: u32,
+) -> bool
+    requires { ⌜ Numbers (view (length (now tags)) (labelsOf (now tags) (now paths)) means.Log) (g .0) from (length (now tags)) (now numbers) ⌝ }
+    ensures { λ x. ⌜ x ≡ theHas (length (now (tags .entry))) (view (length (now (tags .entry))) (labelsOf (now (tags .entry)) (now (paths .entry))) means.Log) (k * 4 + g .0) ⌝ }
+{
+    if from <= k {
+        let above = (k - from) as usize;
+        if above < 1024 {
+            return numbers[above];
+        }
+    }
+    has(tags, paths, Tag::Log, k as u64 * 4 + g.0 as u64)
+}
+
 // How many blocks of generation g there are from number `from` up, below the bound, without gaps.
 fn unbroken(tags: &[u8], paths: &[u64], g: Generation, bound: u32, from: u32) -> usize
     ensures { λ x. ⌜ x ≡ theUnbroken (length (now (tags .entry))) (view (length (now (tags .entry))) (labelsOf (now (tags .entry)) (now (paths .entry))) means.Log) (g .0) bound from (length (now (tags .entry))) ⌝ }
 {
+    if from >= bound {
+        return 0;
+    }
+    let numbers = numbers_from(tags, paths, g, from);
     let mut count: usize = 0;
     let mut k = from;
     while count < tags.len() {
         if k >= bound {
             return count;
         }
-        if !has(tags, paths, Tag::Log, k as u64 * 4 + g.0 as u64) {
+        if !has_number(tags, paths, &numbers, g, from, k) {
             return count;
         }
         count += 1;

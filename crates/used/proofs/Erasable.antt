@@ -14,10 +14,10 @@ use Rattle.meaning.specs.declared.Geometry.{Geometry}
 use Rattle.meaning.specs.declared.Extent.{Extent}
 use Rattle.meaning.specs.declared.Plan.{Plan}
 use Rattle.meaning.specs.declared.Tag.the-variants.{Log, Data}
-use Rattle.meaning.specs.Flash.{Labels, Lent, fits, goodGeometry, labelsOf, rOf}
+use Rattle.meaning.specs.Flash.{Labels, Lent, fits, goodGeometry, labelsOf, rOf, sameTag}
 use Rattle.meaning.specs.Labels.{counts, dropped, logPlan, older, view}
 use Rattle.meaning.specs.Mount.{eraseList, idle, isDropped, isIdle, toErase}
-use Rattle.label.proofs.Sure.{and-no-r, and-on-r, eq-here, ne-here}
+use Rattle.label.proofs.Sure.{and-no-r, and-on-r, eq-here, ne-here, sure}
 use Rattle.used.specs.Needed.{over}
 use Rattle.used.specs.Bits.{listed, padded, usedBits}
 use Rattle.used.specs.Erase.{erasable, eraseBy, eraseOf, unused}
@@ -27,6 +27,11 @@ use Rattle.used.proofs.Bits.{places-cong}
 use Rattle.used.proofs.Masks.{listed-at, mask-idle, masks-are, pad-more, pad-none, pad-take}
 
 -- ---- one block
+
+-- c says whether block i, which is no older copy, is of tag Data
+pub data-counts : {c : Bool} (n : ℕ) (m : Labels) (i : ℕ) → (i < n) × (false ≡ older n m i) → c ≡ sameTag (m .tag i) Data → c ≡ counts n m Data i
+unfolding counts
+data-counts n m i h e = let l : i < n = h .0 in let o : false ≡ older n m i = h .1 in search sure
 
 module _ (n : ℕ) (m : Labels) (mask i : ℕ) where
   pub unused-no : 0 < mask → false ≡ unused n m mask i

@@ -13,6 +13,7 @@ ghost use Prim.Native.Nat.{_+_, _-_, _/_, _<_, _≤_, _^_, min};
 ghost use lib.ListN.{length, getD};
 ghost use Rattle.base.specs.Choice.{ifTrue};
 ghost use Rattle.meaning.specs.Flash.{labelsOf};
+ghost use Rattle.meaning.specs.Labels.{older};
 ghost use Rattle.meaning.specs.Mount.{absent as theAbsent, inData, lacks as theLacks};
 ghost use Rattle.extent.specs.Rows.{extentOf};
 ghost use Rattle.used.specs.Needed.{over, refusalOf, Seen};
@@ -252,20 +253,23 @@ fn mask_at(masks: &[u32], i: usize) -> u32
     0
 }
 
-// "Data blocks with no used page".
+// "Data blocks with no used page". An older copy is not asked.
 fn is_unused(tags: &[u8], paths: &[u64], mask: u32, b: Block) -> bool
+    requires { ⌜ (b .0 < length (now tags)) × (false ≡ older (length (now tags)) (labelsOf (now tags) (now paths)) (b .0)) ⌝ }
     ensures { λ r. ⌜ r ≡ unused (length (now (tags .entry))) (labelsOf (now (tags .entry)) (now (paths .entry))) mask (b .0) ⌝ }
 {
     if 0 < mask {
         return false;
     }
-    label::counts(tags, paths, Tag::Data, b)
+    label::is_tag(tags, paths, Tag::Data, b)
 }
 
-fn is_erasable(tags: &[u8], paths: &[u64], p: Plan, mask: u32, b: Block) -> bool
+// The caller says whether block b is an older copy.
+fn is_erasable(tags: &[u8], paths: &[u64], p: Plan, old: bool, mask: u32, b: Block) -> bool
+    requires { ⌜ (b .0 < length (now tags)) × (old ≡ older (length (now tags)) (labelsOf (now tags) (now paths)) (b .0)) ⌝ }
     ensures { λ r. ⌜ r ≡ erasable (length (now (tags .entry))) (labelsOf (now (tags .entry)) (now (paths .entry))) p mask (b .0) ⌝ }
 {
-    if label::is_older(tags, paths, b) {
+    if old {
         return true;
     }
     if plan::is_dropped(tags, paths, p, b) {
@@ -279,13 +283,14 @@ pub fn erase_list(tags: &[u8], paths: &[u64], p: Plan, masks: &[u32]) -> Erase
     requires { ⌜ length (now tags) ≤ 1024 ⌝ }
     ensures { λ r. ⌜ r ≡ eraseOf (eraseBy (length (now (tags .entry))) (labelsOf (now (tags .entry)) (now (paths .entry))) p (now (masks .entry))) ⌝ }
 {
+    let olders = label::olders(tags, paths);
     let mut blocks = [0; 1024];
     let mut count = 0;
     let mut i = 0;
     while i < tags.len() {
         let at = i;
         i += 1;
-        if is_erasable(tags, paths, p, mask_at(masks, at), Block(at)) {
+        if is_erasable(tags, paths, p, olders[at], mask_at(masks, at), Block(at)) {
             blocks[count] = at as u32;
             count += 1;
         }

@@ -1,7 +1,7 @@
 -- `used::is_unused` meets its contract.
 -- Assumes nothing.
 use native.Mathlib.Omega.{arith}
-use Rattle.used.proofs.Erasable.{unused-no, unused-on}
+use Rattle.used.proofs.Erasable.{data-counts, unused-no, unused-on}
 use borrow.Author.Needs.{needs}
 use Rattle.used.proofs.is_unused.Statement.{statement}
 use Rattle.used.proofs.is_unused.Tie as tie
@@ -12,4 +12,4 @@ is-unused-spec =
     (tie.spec
     (λ c. unused-no _ _ _ _ (omega arith))
     (λ c κs. search needs)
-    (λ c. unused-on _ _ _ _ (omega arith) (c .counts .ensures)))
+    (λ c. unused-on _ _ _ _ (omega arith) (data-counts _ _ _ (c .before .before .before .before .pre) (c .is-tag .ensures))))
