@@ -1,7 +1,7 @@
 -- The functions of src/edit.rt, a law for each kind of message.
 use Prim.Native.Nat.{ℕ, _+_, _^_, _<_}
 use mathlib.Core.Path.{_≡_, refl, sym, ap, subst, _∙_}
-use mathlib.Core.Bool.{Bool}
+use mathlib.Core.Bool.{Bool, true, false}
 use Rattle.meaning.specs.declared.Extent.{Extent}
 use Rattle.meaning.specs.declared.Message.{Message}
 use Rattle.meaning.specs.declared.Message.the-variants.{Create, Remove, Truncate, Write, Wstat}
@@ -9,22 +9,28 @@ use Rattle.meaning.specs.declared.Place.{Place}
 use Rattle.meaning.specs.declared.Record.{Record}
 use Rattle.meaning.specs.declared.Verdict.{Verdict}
 use Rattle.meaning.specs.Replay.{applies, created, truncated, written, restated, stamp}
+use Rattle.base.specs.Choice.{ifTrue}
 use Rattle.base.proofs.Ways.{yes=, no=}
 use Rattle.log.specs.Cursor.{Ranged}
 use Rattle.tree.specs.Judge.{judgeTruncate, judgeWrite, judgeWstat}
 use Rattle.change.specs.declared.edit.Edit.{Edit}
-use Rattle.change.specs.declared.edit.Edit.the-variants.{Ignored, Removed}
+use Rattle.change.specs.declared.edit.Edit.the-variants.{Ignored, Written, Truncated, Restated, Removed}
 use Rattle.change.specs.declared.edit.Made.{Made}
 use Rattle.change.specs.declared.edit.Made.the-variants.{File, Nothing}
-use Rattle.change.specs.Edit.{subject, changedIf, editOf, revised, newborn, stampedBy}
+use Rattle.change.specs.Edit.{subject, editIf, editOf, newborn, stampedBy}
 
 -- a definition at what m is
 at : {B : Type 0} {v : B} (f : Message → B) {m n : Message} → m ≡ n → v ≡ f n → v ≡ f m
 at f e p = p ∙ sym (ap f e)
 
--- the edit of a verdict
-verdict-is : {b : Bool} {v : Verdict} {r : Edit} (w : Verdict) → v ≡ w → b ≡ applies v → r ≡ changedIf b → r ≡ changedIf (applies w)
-verdict-is w e f h = h ∙ ap changedIf (f ∙ ap applies e)
+-- the edit of a message that applies, and of one that does not
+pub edit-yes : {b : Bool} {v : Verdict} (w : Verdict) (s : Edit) {r : Edit} → v ≡ w → b ≡ applies v → b ≡ true → r ≡ s → r ≡ editIf (applies w) s
+unfolding editIf ifTrue
+edit-yes w s e f t h = let z : applies w ≡ true = ap applies (sym e) ∙ sym f ∙ t in rw z h
+
+pub edit-no : {b : Bool} {v : Verdict} (w : Verdict) (s : Edit) → v ≡ w → b ≡ applies v → b ≡ false → Ignored ≡ editIf (applies w) s
+unfolding editIf ifTrue
+edit-no w s e f t = let z : applies w ≡ false = ap applies (sym e) ∙ sym f ∙ t in rw z
 
 module _ {m : Message} {parent perm path mtime cvers : ℕ} {name uid gid : Place} (e : m ≡ Create parent perm path mtime cvers name uid gid) where
   pub subject-create : path ≡ subject m
@@ -34,10 +40,6 @@ module _ {m : Message} {parent perm path mtime cvers : ℕ} {name uid gid : Plac
   pub edit-create : (f : Record) → Ignored ≡ editOf m f
   unfolding editOf
   edit-create f = at (λ (n : Message). editOf n f) e refl
-
-  pub revised-create : (f : Record) → f ≡ revised m f
-  unfolding revised
-  revised-create f = at (λ (n : Message). revised n f) e refl
 
   pub newborn-create : {q : Record} → q ≡ created parent perm path mtime cvers name uid gid → File q ≡ newborn m
   unfolding newborn
@@ -60,10 +62,6 @@ module _ {m : Message} {path mtime : ℕ} {muid : Place} (e : m ≡ Remove path 
   unfolding editOf
   edit-remove f z = at (λ (n : Message). editOf n f) e (no= _ _ _ _ z refl)
 
-  pub revised-remove : (f : Record) → f ≡ revised m f
-  unfolding revised
-  revised-remove f = at (λ (n : Message). revised n f) e refl
-
   pub newborn-remove : Nothing ≡ newborn m
   unfolding newborn
   newborn-remove = at newborn e refl
@@ -77,13 +75,9 @@ module _ {m : Message} {path mtime cvers : ℕ} {muid : Place} (e : m ≡ Trunca
   unfolding subject
   subject-truncate = at subject e refl
 
-  pub edit-truncate : (f : Record) {b : Bool} {v : Verdict} {r : Edit} → v ≡ judgeTruncate f → b ≡ applies v → r ≡ changedIf b → r ≡ editOf m f
+  pub edit-truncate : (f : Record) {r : Edit} → r ≡ editIf (applies (judgeTruncate f)) (Truncated (truncated mtime cvers muid f)) → r ≡ editOf m f
   unfolding editOf
-  edit-truncate f h k l = at (λ (n : Message). editOf n f) e (verdict-is (judgeTruncate f) h k l)
-
-  pub revised-truncate : (f : Record) {q : Record} → q ≡ truncated mtime cvers muid f → q ≡ revised m f
-  unfolding revised
-  revised-truncate f h = at (λ (n : Message). revised n f) e h
+  edit-truncate f h = at (λ (n : Message). editOf n f) e h
 
   pub newborn-truncate : Nothing ≡ newborn m
   unfolding newborn
@@ -98,13 +92,9 @@ module _ {m : Message} {run : Extent} {mtime cvers : ℕ} {muid : Place} (e : m 
   unfolding subject
   subject-write = at subject e refl
 
-  pub edit-write : (f : Record) {b : Bool} {v : Verdict} {r : Edit} → v ≡ judgeWrite f cvers → b ≡ applies v → r ≡ changedIf b → r ≡ editOf m f
+  pub edit-write : (f : Record) {r : Edit} → r ≡ editIf (applies (judgeWrite f cvers)) (Written run (written run mtime muid f)) → r ≡ editOf m f
   unfolding editOf
-  edit-write f h k l = at (λ (n : Message). editOf n f) e (verdict-is (judgeWrite f cvers) h k l)
-
-  pub revised-write : (f : Record) {q : Record} → q ≡ written run mtime muid f → q ≡ revised m f
-  unfolding revised
-  revised-write f h = at (λ (n : Message). revised n f) e h
+  edit-write f h = at (λ (n : Message). editOf n f) e h
 
   -- a run that parses: not empty, and within 32 bits
   pub ranged-run : Ranged m → (0 < run .count) × (run .offset + run .count < 2 ^ 32) × (run .address + run .count < 2 ^ 32)
@@ -123,13 +113,9 @@ module _ {m : Message} {path : ℕ} {name : Place} {perm : ℕ} {uid gid : Place
   unfolding subject
   subject-wstat = at subject e refl
 
-  pub edit-wstat : (f : Record) {b : Bool} {v : Verdict} {r : Edit} → v ≡ judgeWstat path f name perm → b ≡ applies v → r ≡ changedIf b → r ≡ editOf m f
+  pub edit-wstat : (f : Record) {r : Edit} → r ≡ editIf (applies (judgeWstat path f name perm)) (Restated (restated name perm uid gid mtime muid f)) → r ≡ editOf m f
   unfolding editOf
-  edit-wstat f h k l = at (λ (n : Message). editOf n f) e (verdict-is (judgeWstat path f name perm) h k l)
-
-  pub revised-wstat : (f : Record) {q : Record} → q ≡ restated name perm uid gid mtime muid f → q ≡ revised m f
-  unfolding revised
-  revised-wstat f h = at (λ (n : Message). revised n f) e h
+  edit-wstat f h = at (λ (n : Message). editOf n f) e h
 
   pub newborn-wstat : Nothing ≡ newborn m
   unfolding newborn

@@ -6,16 +6,11 @@ use native.Mathlib.Omega.{arith}
 use lib.ListN.{length, set}
 use Rattle.base.specs.Member.{In}
 use Rattle.meaning.specs.declared.Extent.{Extent}
-use Rattle.meaning.specs.declared.Message.{Message}
-use Rattle.meaning.specs.declared.Message.the-variants.{Create, Remove, Truncate, Write, Wstat}
-use Rattle.meaning.specs.declared.Place.{Place}
-use Rattle.meaning.specs.Replay.{lay, others, extentsAfter}
+use Rattle.meaning.specs.Replay.{lay, others}
 use Rattle.extent.specs.Rows.{rowOf, Fit, Sound}
 use Rattle.runs.specs.Runs.{manyOf, roomOf, spanAt, with, gather, Parts, Placed, Owned, Open, Roomed, spansLaid, rowsLaid}
 use Rattle.runs.proofs.Laws.{kept-gather, kept-owned, open-at, gather-lay, lay-parts, lay-owned, lay-count, gather-clear, clear-placed, clear-owned, clear-count}
-use Rattle.log.specs.Cursor.{Ranged}
 use Rattle.change.specs.declared.room.Room.{Room}
-use Rattle.change.specs.Edit.{subject}
 use Rattle.change.specs.Room.{Stands, Known, Laid, Turns, Some}
 
 -- ---- a run
@@ -98,55 +93,3 @@ module _ {spans rows : List (List ℕ)} {ss : List ℕ} {s : ℕ} {old : Room} (
         all = z;
         used = omega (arith, clear-count path spans rows (old .bump) ss s (d .placed) (k .owned) (d .one), d .used) ∙ ap length z;
       })
-
--- ---- by the kind of message
-
-module _ {m : Message} {run : Extent} {mtime cvers : ℕ} {muid : Place} (e : m ≡ Write run mtime muid cvers) where
-  pub some-write : {spans rows : List (List ℕ)} {ss : List ℕ} {s : ℕ} → Some spans rows ss s (subject m) → Some spans rows ss s (run .path)
-  unfolding subject
-  some-write {spans} {rows} {ss} {s} k = subst (λ (n : Message). Some spans rows ss s (subject n)) e k
-
-  pub fit-write : Ranged m → Fit run
-  fit-write r =
-      let b = subst Ranged e r in
-      record { some = b .0; file = b .1; flash = b .2 }
-
-module _ {spans rows spans′ rows′ : List (List ℕ)} {r : Room} {ss : List ℕ} {s : ℕ} (xs : List Extent) {m : Message} where
-  pub turns-write : {run : Extent} {mtime cvers : ℕ} {muid : Place} → m ≡ Write run mtime muid cvers
-      → Turns spans rows spans′ rows′ r ss s (run .path) (lay run xs) → Turns spans rows spans′ rows′ r ss s (subject m) (extentsAfter m xs)
-  unfolding subject extentsAfter
-  turns-write e t = subst (λ (n : Message). Turns spans rows spans′ rows′ r ss s (subject n) (extentsAfter n xs)) (sym e) t
-
-  pub turns-truncate : {path mtime cvers : ℕ} {muid : Place} → m ≡ Truncate path mtime cvers muid
-      → Turns spans rows spans′ rows′ r ss s path (others path xs) → Turns spans rows spans′ rows′ r ss s (subject m) (extentsAfter m xs)
-  unfolding subject extentsAfter
-  turns-truncate e t = subst (λ (n : Message). Turns spans rows spans′ rows′ r ss s (subject n) (extentsAfter n xs)) (sym e) t
-
-  pub turns-remove : {path mtime : ℕ} {muid : Place} → m ≡ Remove path muid mtime
-      → Turns spans rows spans′ rows′ r ss s path (others path xs) → Turns spans rows spans′ rows′ r ss s (subject m) (extentsAfter m xs)
-  unfolding subject extentsAfter
-  turns-remove e t = subst (λ (n : Message). Turns spans rows spans′ rows′ r ss s (subject n) (extentsAfter n xs)) (sym e) t
-
-module _ {m : Message} {spans rows : List (List ℕ)} {ss : List ℕ} {s : ℕ} where
-  pub some-truncate : {path mtime cvers : ℕ} {muid : Place} → m ≡ Truncate path mtime cvers muid → Some spans rows ss s (subject m) → Some spans rows ss s path
-  unfolding subject
-  some-truncate e k = subst (λ (n : Message). Some spans rows ss s (subject n)) e k
-
-  pub some-remove : {path mtime : ℕ} {muid : Place} → m ≡ Remove path muid mtime → Some spans rows ss s (subject m) → Some spans rows ss s path
-  unfolding subject
-  some-remove e k = subst (λ (n : Message). Some spans rows ss s (subject n)) e k
-
--- the extents are as they were
-module _ {spans rows : List (List ℕ)} {ss : List ℕ} {s : ℕ} {old : Room} (d : Stands spans rows old ss s) where
-  same-so : (p : ℕ) → Turns spans rows spans rows old ss s p (gather spans rows ss)
-  same-so p path k = record { parts = d .placed .parts; owned = k .owned; all = refl; used = d .used }
-
-  pub turns-create : {m : Message} {parent perm path mtime cvers : ℕ} {name uid gid : Place} → m ≡ Create parent perm path mtime cvers name uid gid
-      → Turns spans rows spans rows old ss s (subject m) (extentsAfter m (gather spans rows ss))
-  unfolding subject extentsAfter
-  turns-create {path = path} e = subst (λ (n : Message). Turns spans rows spans rows old ss s (subject n) (extentsAfter n (gather spans rows ss))) (sym e) (same-so path)
-
-  pub turns-wstat : {m : Message} {path : ℕ} {name : Place} {perm : ℕ} {uid gid : Place} {mtime : ℕ} {muid : Place} → m ≡ Wstat path name uid gid muid perm mtime
-      → Turns spans rows spans rows old ss s (subject m) (extentsAfter m (gather spans rows ss))
-  unfolding subject extentsAfter
-  turns-wstat {path = path} e = subst (λ (n : Message). Turns spans rows spans rows old ss s (subject n) (extentsAfter n (gather spans rows ss))) (sym e) (same-so path)

@@ -23,56 +23,77 @@ use Rattle.meaning.specs.declared.Verdict.the-variants.{Applied, NoParent, Pare
 use Rattle.meaning.specs.Answer.{Answer, ok, no, andThen, unless, address}
 use Rattle.meaning.specs.Log.{Entry, Log, empty, stopped, entry}
 use Rattle.meaning.specs.Replay as meaning
-use Rattle.meaning.specs.Replay.{root, created, truncated, written, restated, stamp, sized, isDir, look, alter, insert, delete, isEmpty, homeOf, others, judge, applies, ownAfter, parentAfter, recordsAfter, extentsAfter, changed, full, withinLimits, passedOver, step, told, replay}
+use Rattle.meaning.specs.Replay.{root, created, truncated, written, restated, stamp, sized, isDir, look, alter, insert, delete, isEmpty, homeOf, lay, others, judge, applies, ownAfter, parentAfter, recordsAfter, extentsAfter, changed, full, withinLimits, passedOver, step, told, replay}
+use Rattle.extent.specs.Rows.{Fit}
+use Rattle.log.specs.Cursor.{Ranged}
 use Rattle.tree.specs.Judge.{judgeCreate, judgeRemove}
 use Rattle.tree.proofs.Judged as judged
 use Rattle.tree.proofs.Judged.{not-emptied, created-there, created-absent, removed-absent, truncated-there, truncated-absent, written-there, written-absent, restated-there, restated-absent}
 use Rattle.change.specs.declared.edit.Edit.{Edit}
-use Rattle.change.specs.declared.edit.Edit.the-variants.{Ignored, Changed, Removed}
+use Rattle.change.specs.declared.edit.Edit.the-variants.{Ignored, Written, Truncated, Restated, Removed}
 use Rattle.change.specs.declared.edit.Made.{Made}
 use Rattle.change.specs.declared.edit.Made.the-variants.{File, Nothing}
-use Rattle.change.specs.Edit.{subject, changedIf, editOf, revised, newborn, stampedBy}
+use Rattle.change.specs.Edit.{subject, editIf, editOf, newborn, stampedBy}
 
 -- ---- edits and verdicts
 
-abbrev rank : Edit → ℕ
+-- what an edit does: from 2 on, it makes a record of the one that is there
+abbrev pub rank : Edit → ℕ
 rank Ignored = 0
-rank Changed = 1
-rank Removed = 2
+rank Removed = 1
+rank (Written run q) = 2
+rank (Truncated q) = 3
+rank (Restated q) = 4
+
+abbrev pub recordOf : Edit → Record
+recordOf Ignored = root
+recordOf Removed = root
+recordOf (Written run q) = q
+recordOf (Truncated q) = q
+recordOf (Restated q) = q
+
+abbrev runOf : Edit → Extent
+runOf Ignored = record { path = 0; offset = 0; count = 0; address = 0 }
+runOf Removed = record { path = 0; offset = 0; count = 0; address = 0 }
+runOf (Written run q) = run
+runOf (Truncated q) = record { path = 0; offset = 0; count = 0; address = 0 }
+runOf (Restated q) = record { path = 0; offset = 0; count = 0; address = 0 }
 
 abbrev born : Made → ℕ
 born (File q) = 0
 born Nothing = 1
 
-ignored-changed : Ignored ≡ Changed → ⊥
-ignored-changed e = zero-one (ap rank e)
-
 ignored-removed : Ignored ≡ Removed → ⊥
-ignored-removed e = zero-two (ap rank e)
-  where
-    zero-two : _≡_ {A = ℕ} 0 2 → ⊥
-    zero-two z = omega arith
+ignored-removed e = zero-one (ap rank e)
 
-changed-removed : Changed ≡ Removed → ⊥
-changed-removed e = one-two (ap rank e)
-  where
-    one-two : _≡_ {A = ℕ} 1 2 → ⊥
-    one-two z = omega arith
+-- what an edit says of the test behind it
+applied-if : (b : Bool) (e : Edit) → 1 < rank (editIf b e) → b ≡ true
+unfolding editIf ifTrue
+applied-if true e p = refl
+applied-if false e p = absurd (omega arith)
 
-applied-if : (b : Bool) → changedIf b ≡ Changed → b ≡ true
-unfolding changedIf ifTrue
-applied-if true e = refl
-applied-if false e = absurd (ignored-changed e)
+made-if : (b : Bool) (e : Edit) → 1 < rank (editIf b e) → editIf b e ≡ e
+unfolding editIf ifTrue
+made-if true e p = refl
+made-if false e p = absurd (omega arith)
 
-ignored-if : (b : Bool) → changedIf b ≡ Ignored → b ≡ false
-unfolding changedIf ifTrue
-ignored-if true e = absurd (ignored-changed (sym e))
-ignored-if false e = refl
+ignored-if : (b : Bool) (e : Edit) → editIf b e ≡ Ignored → 0 < rank e → b ≡ false
+unfolding editIf ifTrue
+ignored-if true e h p = let z : rank e ≡ 0 = ap rank h in absurd (omega arith)
+ignored-if false e h p = refl
 
-never-removed : (b : Bool) → changedIf b ≡ Removed → ⊥
-unfolding changedIf ifTrue
-never-removed true e = changed-removed e
-never-removed false e = ignored-removed e
+rank-if : (b : Bool) (e v : Edit) → editIf b e ≡ v → 0 < rank v → rank e ≡ rank v
+unfolding editIf ifTrue
+rank-if true e v h p = ap rank h
+rank-if false e v h p = let z : 0 ≡ rank v = ap rank h in absurd (omega arith)
+
+same-run : (b : Bool) (run run′ : Extent) (q q′ : Record) → editIf b (Written run′ q′) ≡ Written run q → run′ ≡ run
+unfolding editIf ifTrue
+same-run true run run′ q q′ h = ap runOf h
+same-run false run run′ q q′ h = let z : _≡_ {A = ℕ} 0 2 = ap rank h in absurd (omega arith)
+
+never-removed : (b : Bool) (e : Edit) → editIf b e ≡ Removed → 1 < rank e → ⊥
+never-removed b e h p = let z : rank e ≡ 1 = rank-if b e Removed h (omega arith) in omega arith
 
 root-ignored : (path : ℕ) → ifEq path 0 Ignored Removed ≡ Ignored → path ≡ 0
 root-ignored path e = ⊎-elim (λ (z : path ≡ 0). z) (λ (z : path ≢ 0). absurd (ignored-removed (sym e ∙ eq-no path 0 Ignored Removed z))) (eq-or path 0)
@@ -80,10 +101,10 @@ root-ignored path e = ⊎-elim (λ (z : path ≡ 0). z) (λ (z : path ≢ 0). ab
 root-removed : (path : ℕ) → ifEq path 0 Ignored Removed ≡ Removed → path ≢ 0
 root-removed path e z = ignored-removed (sym (eq-yes path 0 Ignored Removed z) ∙ e)
 
-root-changed : (path : ℕ) → ifEq path 0 Ignored Removed ≡ Changed → ⊥
-root-changed path e = ⊎-elim
-    (λ (z : path ≡ 0). ignored-changed (sym (eq-yes path 0 Ignored Removed z) ∙ e))
-    (λ (z : path ≢ 0). changed-removed (sym e ∙ eq-no path 0 Ignored Removed z))
+root-rank : (path : ℕ) → rank (ifEq path 0 Ignored Removed) ≤ 1
+root-rank path = ⊎-elim
+    (λ (z : path ≡ 0). let h : rank (ifEq path 0 Ignored Removed) ≡ 0 = ap rank (eq-yes path 0 Ignored Removed z) in omega arith)
+    (λ (z : path ≢ 0). let h : rank (ifEq path 0 Ignored Removed) ≡ 1 = ap rank (eq-no path 0 Ignored Removed z) in omega arith)
     (eq-or path 0)
 
 -- a create of a path that is there
@@ -111,28 +132,81 @@ may-go path f empty z h = eq-no path 0 _ _ z ∙ go (isDir f) empty h
     go true e h = rw (h refl)
     go false e h = refl
 
+-- the record that a change makes
+unfoldable pub revised : Message → Record → Record
+revised (Create parent perm path mtime cvers name uid gid) f = f
+revised (Remove path muid mtime) f = f
+revised (Truncate path mtime cvers muid) f = truncated mtime cvers muid f
+revised (Write run mtime muid cvers) f = written run mtime muid f
+revised (Wstat path name uid gid muid perm mtime) f = restated name perm uid gid mtime muid f
+
+pub made-revised : (m : Message) (f : Record) → 1 < rank (editOf m f) → recordOf (editOf m f) ≡ revised m f
+unfolding editOf revised
+made-revised (Create parent perm path mtime cvers name uid gid) f e = absurd (omega arith)
+made-revised (Remove path muid mtime) f e = absurd (omega (arith, root-rank path))
+made-revised (Truncate path mtime cvers muid) f e = ap recordOf (made-if _ _ e)
+made-revised (Write run mtime muid cvers) f e = ap recordOf (made-if _ _ e)
+made-revised (Wstat path name uid gid muid perm mtime) f e = ap recordOf (made-if _ _ e)
+
+-- ---- what becomes of the extents
+
+module _ (f : Record) where
+  pub written-run : (m : Message) {run : Extent} {q : Record} → editOf m f ≡ Written run q → (run .path ≡ subject m) × (Ranged m → Fit run)
+  unfolding editOf subject
+  written-run (Create parent perm path mtime cvers name uid gid) e = let z : _≡_ {A = ℕ} 0 2 = ap rank e in absurd (omega arith)
+  written-run (Remove path muid mtime) e = let z : rank (ifEq path 0 Ignored Removed) ≡ 2 = ap rank e in absurd (omega (arith, root-rank path))
+  written-run (Truncate path mtime cvers muid) e = let z : _≡_ {A = ℕ} 3 2 = rank-if _ _ _ e (omega arith) in absurd (omega arith)
+  written-run (Write run′ mtime muid cvers) {run} e =
+      let z : run′ ≡ run = same-run _ _ _ _ _ e in
+      (ap (λ (x : Extent). x .path) (sym z), λ r. subst Fit z (record { some = r .0; file = r .1; flash = r .2 }))
+  written-run (Wstat path name uid gid muid perm mtime) e = let z : _≡_ {A = ℕ} 4 2 = rank-if _ _ _ e (omega arith) in absurd (omega arith)
+
+  pub written-extents : (m : Message) {run : Extent} {q : Record} (xs : List Extent) → editOf m f ≡ Written run q → extentsAfter m xs ≡ lay run xs
+  unfolding editOf extentsAfter
+  written-extents (Create parent perm path mtime cvers name uid gid) xs e = let z : _≡_ {A = ℕ} 0 2 = ap rank e in absurd (omega arith)
+  written-extents (Remove path muid mtime) xs e = let z : rank (ifEq path 0 Ignored Removed) ≡ 2 = ap rank e in absurd (omega (arith, root-rank path))
+  written-extents (Truncate path mtime cvers muid) xs e = let z : _≡_ {A = ℕ} 3 2 = rank-if _ _ _ e (omega arith) in absurd (omega arith)
+  written-extents (Write run′ mtime muid cvers) xs e = ap (λ (x : Extent). lay x xs) (same-run _ _ _ _ _ e)
+  written-extents (Wstat path name uid gid muid perm mtime) xs e = let z : _≡_ {A = ℕ} 4 2 = rank-if _ _ _ e (omega arith) in absurd (omega arith)
+
+  pub truncated-extents : (m : Message) {q : Record} (xs : List Extent) → editOf m f ≡ Truncated q → extentsAfter m xs ≡ others (subject m) xs
+  unfolding editOf subject extentsAfter
+  truncated-extents (Create parent perm path mtime cvers name uid gid) xs e = let z : _≡_ {A = ℕ} 0 3 = ap rank e in absurd (omega arith)
+  truncated-extents (Remove path muid mtime) xs e = refl
+  truncated-extents (Truncate path mtime cvers muid) xs e = refl
+  truncated-extents (Write run mtime muid cvers) xs e = let z : _≡_ {A = ℕ} 2 3 = rank-if _ _ _ e (omega arith) in absurd (omega arith)
+  truncated-extents (Wstat path name uid gid muid perm mtime) xs e = let z : _≡_ {A = ℕ} 4 3 = rank-if _ _ _ e (omega arith) in absurd (omega arith)
+
+  pub restated-extents : (m : Message) {q : Record} (xs : List Extent) → editOf m f ≡ Restated q → extentsAfter m xs ≡ xs
+  unfolding editOf extentsAfter
+  restated-extents (Create parent perm path mtime cvers name uid gid) xs e = refl
+  restated-extents (Remove path muid mtime) xs e = let z : rank (ifEq path 0 Ignored Removed) ≡ 4 = ap rank e in absurd (omega (arith, root-rank path))
+  restated-extents (Truncate path mtime cvers muid) xs e = let z : _≡_ {A = ℕ} 3 4 = rank-if _ _ _ e (omega arith) in absurd (omega arith)
+  restated-extents (Write run mtime muid cvers) xs e = let z : _≡_ {A = ℕ} 2 4 = rank-if _ _ _ e (omega arith) in absurd (omega arith)
+  restated-extents (Wstat path name uid gid muid perm mtime) xs e = refl
+
 module _ (fs : List Record) (f : Record) where
   -- the file of its path is there
   pub ignored-there : (m : Message) → look (subject m) fs ≡ some f → editOf m f ≡ Ignored → applies (judge m fs) ≡ false
   unfolding subject editOf judge applies
   ignored-there (Create parent perm path mtime cvers name uid gid) l e = taken (look parent fs) (look path fs) f l
   ignored-there (Remove path muid mtime) l e = ap applies (judged.removed-there fs path mtime muid f l ∙ root-stays path f _ (root-ignored path e))
-  ignored-there (Truncate path mtime cvers muid) l e = ap applies (truncated-there fs path mtime cvers muid f l) ∙ ignored-if _ e
-  ignored-there (Write run mtime muid cvers) l e = ap applies (written-there fs run mtime cvers muid f l) ∙ ignored-if _ e
-  ignored-there (Wstat path name uid gid muid perm mtime) l e = ap applies (restated-there fs path name perm uid gid mtime muid f l) ∙ ignored-if _ e
+  ignored-there (Truncate path mtime cvers muid) l e = ap applies (truncated-there fs path mtime cvers muid f l) ∙ ignored-if _ _ e (omega arith)
+  ignored-there (Write run mtime muid cvers) l e = ap applies (written-there fs run mtime cvers muid f l) ∙ ignored-if _ _ e (omega arith)
+  ignored-there (Wstat path name uid gid muid perm mtime) l e = ap applies (restated-there fs path name perm uid gid mtime muid f l) ∙ ignored-if _ _ e (omega arith)
 
-  pub changed-there : (m : Message) → look (subject m) fs ≡ some f → editOf m f ≡ Changed → applies (judge m fs) ≡ true
+  pub changed-there : (m : Message) → look (subject m) fs ≡ some f → 1 < rank (editOf m f) → applies (judge m fs) ≡ true
   unfolding subject editOf
-  changed-there (Create parent perm path mtime cvers name uid gid) l e = absurd (ignored-changed e)
-  changed-there (Remove path muid mtime) l e = absurd (root-changed path e)
-  changed-there (Truncate path mtime cvers muid) l e = ap applies (truncated-there fs path mtime cvers muid f l) ∙ applied-if _ e
-  changed-there (Write run mtime muid cvers) l e = ap applies (written-there fs run mtime cvers muid f l) ∙ applied-if _ e
-  changed-there (Wstat path name uid gid muid perm mtime) l e = ap applies (restated-there fs path name perm uid gid mtime muid f l) ∙ applied-if _ e
+  changed-there (Create parent perm path mtime cvers name uid gid) l e = absurd (omega arith)
+  changed-there (Remove path muid mtime) l e = absurd (omega (arith, root-rank path))
+  changed-there (Truncate path mtime cvers muid) l e = ap applies (truncated-there fs path mtime cvers muid f l) ∙ applied-if _ _ e
+  changed-there (Write run mtime muid cvers) l e = ap applies (written-there fs run mtime cvers muid f l) ∙ applied-if _ _ e
+  changed-there (Wstat path name uid gid muid perm mtime) l e = ap applies (restated-there fs path name perm uid gid mtime muid f l) ∙ applied-if _ _ e
 
-  pub changed-records : (m : Message) → editOf m f ≡ Changed → recordsAfter m fs ≡ alter (subject m) (revised m) fs
+  pub changed-records : (m : Message) → 1 < rank (editOf m f) → recordsAfter m fs ≡ alter (subject m) (revised m) fs
   unfolding subject editOf recordsAfter parentAfter ownAfter revised
-  changed-records (Create parent perm path mtime cvers name uid gid) e = absurd (ignored-changed e)
-  changed-records (Remove path muid mtime) e = absurd (root-changed path e)
+  changed-records (Create parent perm path mtime cvers name uid gid) e = absurd (omega arith)
+  changed-records (Remove path muid mtime) e = absurd (omega (arith, root-rank path))
   changed-records (Truncate path mtime cvers muid) e = refl
   changed-records (Write run mtime muid cvers) e = refl
   changed-records (Wstat path name uid gid muid perm mtime) e = refl
@@ -142,33 +216,33 @@ module _ (fs : List Record) (f : Record) where
   unfolding subject editOf applies
   removed-full (Create parent perm path mtime cvers name uid gid) l e d n = absurd (ignored-removed e)
   removed-full (Remove path muid mtime) l e d n = ap applies (judged.removed-there fs path mtime muid f l ∙ not-emptied path f _ (root-removed path e) d n)
-  removed-full (Truncate path mtime cvers muid) l e d n = absurd (never-removed _ e)
-  removed-full (Write run mtime muid cvers) l e d n = absurd (never-removed _ e)
-  removed-full (Wstat path name uid gid muid perm mtime) l e d n = absurd (never-removed _ e)
+  removed-full (Truncate path mtime cvers muid) l e d n = absurd (never-removed _ _ e (omega arith))
+  removed-full (Write run mtime muid cvers) l e d n = absurd (never-removed _ _ e (omega arith))
+  removed-full (Wstat path name uid gid muid perm mtime) l e d n = absurd (never-removed _ _ e (omega arith))
 
   pub removed-there : (m : Message) → look (subject m) fs ≡ some f → editOf m f ≡ Removed → (isDir f ≡ true → isEmpty (subject m) fs ≡ true) → applies (judge m fs) ≡ true
   unfolding subject editOf applies
   removed-there (Create parent perm path mtime cvers name uid gid) l e d = absurd (ignored-removed e)
   removed-there (Remove path muid mtime) l e d = ap applies (judged.removed-there fs path mtime muid f l ∙ may-go path f _ (root-removed path e) d)
-  removed-there (Truncate path mtime cvers muid) l e d = absurd (never-removed _ e)
-  removed-there (Write run mtime muid cvers) l e d = absurd (never-removed _ e)
-  removed-there (Wstat path name uid gid muid perm mtime) l e d = absurd (never-removed _ e)
+  removed-there (Truncate path mtime cvers muid) l e d = absurd (never-removed _ _ e (omega arith))
+  removed-there (Write run mtime muid cvers) l e d = absurd (never-removed _ _ e (omega arith))
+  removed-there (Wstat path name uid gid muid perm mtime) l e d = absurd (never-removed _ _ e (omega arith))
 
   pub removed-records : (m : Message) → look (subject m) fs ≡ some f → editOf m f ≡ Removed → recordsAfter m fs ≡ alter (f .parent) (stampedBy m) (delete (subject m) fs)
   unfolding subject editOf recordsAfter parentAfter ownAfter stampedBy homeOf onSome
   removed-records (Create parent perm path mtime cvers name uid gid) l e = absurd (ignored-removed e)
   removed-records (Remove path muid mtime) l e = rw l
-  removed-records (Truncate path mtime cvers muid) l e = absurd (never-removed _ e)
-  removed-records (Write run mtime muid cvers) l e = absurd (never-removed _ e)
-  removed-records (Wstat path name uid gid muid perm mtime) l e = absurd (never-removed _ e)
+  removed-records (Truncate path mtime cvers muid) l e = absurd (never-removed _ _ e (omega arith))
+  removed-records (Write run mtime muid cvers) l e = absurd (never-removed _ _ e (omega arith))
+  removed-records (Wstat path name uid gid muid perm mtime) l e = absurd (never-removed _ _ e (omega arith))
 
   pub removed-extents : (m : Message) (xs : List Extent) → editOf m f ≡ Removed → extentsAfter m xs ≡ others (subject m) xs
   unfolding subject editOf extentsAfter
   removed-extents (Create parent perm path mtime cvers name uid gid) xs e = absurd (ignored-removed e)
   removed-extents (Remove path muid mtime) xs e = refl
-  removed-extents (Truncate path mtime cvers muid) xs e = absurd (never-removed _ e)
-  removed-extents (Write run mtime muid cvers) xs e = absurd (never-removed _ e)
-  removed-extents (Wstat path name uid gid muid perm mtime) xs e = absurd (never-removed _ e)
+  removed-extents (Truncate path mtime cvers muid) xs e = absurd (never-removed _ _ e (omega arith))
+  removed-extents (Write run mtime muid cvers) xs e = absurd (never-removed _ _ e (omega arith))
+  removed-extents (Wstat path name uid gid muid perm mtime) xs e = absurd (never-removed _ _ e (omega arith))
 
 -- ---- no file of its path is there
 
@@ -294,4 +368,12 @@ others-twice p [] = refl
 others-twice p (x ∷ xs) = ⊎-elim
     (λ (z : x .path ≡ p). ap (others p) (eq-yes (x .path) p _ _ z) ∙ others-twice p xs ∙ sym (eq-yes (x .path) p _ _ z))
     (λ (z : x .path ≢ p). ap (others p) (eq-no (x .path) p _ _ z) ∙ eq-no (x .path) p _ _ z ∙ ap (λ (ys : List Extent). x ∷ ys) (others-twice p xs) ∙ sym (eq-no (x .path) p _ _ z))
+    (eq-or (x .path) p)
+
+pub others-fewer : (p : ℕ) (xs : List Extent) → length (others p xs) ≤ length xs
+unfolding others
+others-fewer p [] = omega arith
+others-fewer p (x ∷ xs) = ⊎-elim
+    (λ (z : x .path ≡ p). rw (eq-yes (x .path) p (others p xs) (x ∷ others p xs) z) (omega (arith, others-fewer p xs)))
+    (λ (z : x .path ≢ p). rw (eq-no (x .path) p (others p xs) (x ∷ others p xs) z) (omega (arith, others-fewer p xs)))
     (eq-or (x .path) p)

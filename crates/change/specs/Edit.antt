@@ -8,7 +8,7 @@ use Rattle.base.specs.Choice.{ifTrue, ifEq}
 use Rattle.meaning.specs.Replay.{applies, created, truncated, written, restated, stamp}
 use Rattle.tree.specs.Judge.{judgeTruncate, judgeWrite, judgeWstat}
 use Rattle.change.specs.declared.edit.Edit.{Edit}
-use Rattle.change.specs.declared.edit.Edit.the-variants.{Ignored, Changed, Removed}
+use Rattle.change.specs.declared.edit.Edit.the-variants.{Ignored, Written, Truncated, Restated, Removed}
 use Rattle.change.specs.declared.edit.Made.{Made}
 use Rattle.change.specs.declared.edit.Made.the-variants.{File, Nothing}
 
@@ -20,24 +20,17 @@ subject (Truncate path mtime cvers muid) = path
 subject (Write run mtime muid cvers) = run .path
 subject (Wstat path name uid gid muid perm mtime) = path
 
-unfoldable pub changedIf : Bool → Edit
-changedIf b = ifTrue b Changed Ignored
+-- what a message does, if it applies
+unfoldable pub editIf : Bool → Edit → Edit
+editIf b e = ifTrue b e Ignored
 
 -- where the file f of that path is there; of a remove, whether f is empty is not asked yet
 unfoldable pub editOf : Message → Record → Edit
 editOf (Create parent perm path mtime cvers name uid gid) f = Ignored
 editOf (Remove path muid mtime) f = ifEq path 0 Ignored Removed
-editOf (Truncate path mtime cvers muid) f = changedIf (applies (judgeTruncate f))
-editOf (Write run mtime muid cvers) f = changedIf (applies (judgeWrite f cvers))
-editOf (Wstat path name uid gid muid perm mtime) f = changedIf (applies (judgeWstat path f name perm))
-
--- the record then
-unfoldable pub revised : Message → Record → Record
-revised (Create parent perm path mtime cvers name uid gid) f = f
-revised (Remove path muid mtime) f = f
-revised (Truncate path mtime cvers muid) f = truncated mtime cvers muid f
-revised (Write run mtime muid cvers) f = written run mtime muid f
-revised (Wstat path name uid gid muid perm mtime) f = restated name perm uid gid mtime muid f
+editOf (Truncate path mtime cvers muid) f = editIf (applies (judgeTruncate f)) (Truncated (truncated mtime cvers muid f))
+editOf (Write run mtime muid cvers) f = editIf (applies (judgeWrite f cvers)) (Written run (written run mtime muid f))
+editOf (Wstat path name uid gid muid perm mtime) f = editIf (applies (judgeWstat path f name perm)) (Restated (restated name perm uid gid mtime muid f))
 
 -- the record of a new file, where there is none of that path
 unfoldable pub newborn : Message → Made

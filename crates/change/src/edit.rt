@@ -1,16 +1,26 @@
 // What a message would do: the path that it speaks of, and what it makes of the record there.
 ghost use mathlib.Core.Path.{_≡_};
-ghost use Prim.Native.Nat.{_^_, _<_};
+ghost use Prim.Native.Nat.{_+_, _^_, _<_};
 ghost use Rattle.log.specs.Cursor.{Ranged};
-ghost use Rattle.change.specs.Edit.{subject, changedIf, editOf, newborn, revised as theRevised, stampedBy};
+ghost use Rattle.meaning.specs.Replay.{applies, restated, truncated, written};
+ghost use Rattle.tree.specs.Judge.{judgeTruncate, judgeWrite, judgeWstat};
+ghost use Rattle.change.specs.declared.edit.Edit.the-variants.{Restated, Truncated, Written};
+ghost use Rattle.change.specs.Edit.{subject, editIf, editOf, newborn, stampedBy};
+use meaning::Extent;
 use meaning::Message;
+use meaning::Place;
 use meaning::Record;
 
-/// What a message does to the file that bears its path.
+/// What a message does to the file that bears its path: the record that it makes of it, and what becomes of its extents.
 pub enum Edit {
     Ignored,
-    Changed,
-    /// Unless it is a directory with entries.
+    /// A run is laid over them.
+    Written(Extent, Record),
+    /// They go.
+    Truncated(Record),
+    /// They stay.
+    Restated(Record),
+    /// The file goes, unless it is a directory with entries.
     Removed,
 }
 
@@ -33,17 +43,49 @@ pub fn path_of(m: Message) -> u32
     }
 }
 
-fn changed_if(applies: bool) -> Edit
-    ensures { λ r. ⌜ r ≡ changedIf applies ⌝ }
+fn truncation(f: Record, mtime: u32, cvers: u32, muid: Place) -> Edit
+    ensures { λ r. ⌜ r ≡ editIf (applies (judgeTruncate f)) (Truncated (truncated mtime cvers muid f)) ⌝ }
 {
-    if applies {
-        return Edit::Changed;
+    if tree::applies(tree::judge_truncate(f)) {
+        let q = tree::truncated(f, mtime, cvers, muid);
+        return Edit::Truncated(q);
     }
     Edit::Ignored
 }
 
-/// Where the file f of its path is there.
+fn write(f: Record, run: Extent, mtime: u32, muid: Place, cvers: u32) -> Edit
+    requires { ⌜ run .offset + run .count < 2 ^ 32 ⌝ }
+    ensures { λ r. ⌜ r ≡ editIf (applies (judgeWrite f cvers)) (Written run (written run mtime muid f)) ⌝ }
+{
+    if tree::applies(tree::judge_write(f, cvers)) {
+        let q = tree::written(f, run, mtime, muid);
+        return Edit::Written(run, q);
+    }
+    Edit::Ignored
+}
+
+fn restatement(
+    f: Record,
+    path: u32,
+    name: Place,
+    perm: u32,
+    uid: Place,
+    gid: Place,
+    mtime: u32,
+    muid: Place,
+) -> Edit
+    ensures { λ r. ⌜ r ≡ editIf (applies (judgeWstat path f name perm)) (Restated (restated name perm uid gid mtime muid f)) ⌝ }
+{
+    if tree::applies(tree::judge_wstat(path, f, name, perm)) {
+        let q = tree::restated(f, name, perm, uid, gid, mtime, muid);
+        return Edit::Restated(q);
+    }
+    Edit::Ignored
+}
+
+/// Where the file f of its path is there. Each kind has an answer of its own: what a message is is asked once.
 pub fn edit_of(m: Message, f: Record) -> Edit
+    requires { ⌜ Ranged m ⌝ }
     ensures { λ r. ⌜ r ≡ editOf m f ⌝ }
 {
     match m {
@@ -54,57 +96,32 @@ pub fn edit_of(m: Message, f: Record) -> Edit
             }
             return Edit::Removed;
         }
-        Message::Truncate { .. } => {
-            return changed_if(tree::applies(tree::judge_truncate(f)));
-        }
-        Message::Write { cvers, .. } => {
-            return changed_if(tree::applies(tree::judge_write(f, cvers)));
-        }
-        Message::Wstat {
-            path,
-            name,
-            perm,
-            ..
-        } => {
-            return changed_if(tree::applies(tree::judge_wstat(path, f, name, perm)));
-        }
-    }
-}
-
-/// The record then.
-pub fn revised(m: Message, f: Record) -> Record
-    requires { ⌜ Ranged m ⌝ }
-    ensures { λ r. ⌜ r ≡ theRevised m f ⌝ }
-{
-    match m {
-        Message::Create { .. } => f,
-        Message::Remove { .. } => f,
         Message::Truncate {
             mtime,
             cvers,
             muid,
             ..
         } => {
-            return tree::truncated(f, mtime, cvers, muid);
+            return truncation(f, mtime, cvers, muid);
         }
         Message::Write {
             run,
             mtime,
             muid,
-            ..
+            cvers,
         } => {
-            return tree::written(f, run, mtime, muid);
+            return write(f, run, mtime, muid, cvers);
         }
         Message::Wstat {
+            path,
             name,
-            perm,
             uid,
             gid,
-            mtime,
             muid,
-            ..
+            perm,
+            mtime,
         } => {
-            return tree::restated(f, name, perm, uid, gid, mtime, muid);
+            return restatement(f, path, name, perm, uid, gid, mtime, muid);
         }
     }
 }

@@ -1,15 +1,12 @@
-// The extents after a message, told to the rows of the file that it speaks of.
+// The extents after a message: the rows of the file that it speaks of, changed.
 ghost use mathlib.Core.Path.{_≡_};
 ghost use Prim.Native.Nat.{_≤_};
 ghost use lib.ListN.{length, take};
-ghost use Rattle.meaning.specs.Replay.{lay, others, extentsAfter};
+ghost use Rattle.meaning.specs.Replay.{lay, others};
 ghost use Rattle.extent.specs.Rows.{Fit};
 ghost use Rattle.runs.specs.Runs.{gather, Live};
-ghost use Rattle.log.specs.Cursor.{Ranged};
-ghost use Rattle.change.specs.Edit.{subject};
 ghost use Rattle.change.specs.Room.{Stands, Some, Turns};
 use meaning::Extent;
-use meaning::Message;
 
 /// Where free rows begin, and how many extents there are.
 pub struct Room {
@@ -18,7 +15,7 @@ pub struct Room {
 }
 
 /// A run is laid over the older extents of its file.
-fn lay_run(
+pub fn lay_run(
     spans: &mut [[u32; 3]],
     rows: &mut [[u32; 4]],
     scratch: &mut [[u32; 4]],
@@ -47,7 +44,7 @@ fn lay_run(
 }
 
 /// The file has no extents then.
-fn clear(
+pub fn clear(
     spans: &mut [[u32; 3]],
     rows: &[[u32; 4]],
     slots: &[u32; 256],
@@ -64,34 +61,5 @@ fn clear(
     Room {
         bump: room.bump,
         used: room.used - had,
-    }
-}
-
-/// The extents after a message on the file in slot s.
-pub fn extents_after(
-    spans: &mut [[u32; 3]],
-    rows: &mut [[u32; 4]],
-    scratch: &mut [[u32; 4]],
-    slots: &[u32; 256],
-    n: usize,
-    room: Room,
-    s: usize,
-    m: Message,
-) -> Room
-    requires { ⌜ Live (now slots) n × (1024 ≤ length (now scratch)) × Stands (now spans) (now rows) room (take n (now slots)) s × Some (now spans) (now rows) (take n (now slots)) s (subject m) × Ranged m ⌝ }
-    ensures { λ r. ⌜ Turns (now (spans .entry)) (now (rows .entry)) (now (spans .exit)) (now (rows .exit)) r (take n (now (slots .entry))) s (subject m) (extentsAfter m (gather (now (spans .entry)) (now (rows .entry)) (take n (now (slots .entry))))) ⌝ }
-{
-    match m {
-        Message::Write { run, .. } => {
-            return lay_run(spans, rows, scratch, slots, n, room, s, run);
-        }
-        Message::Truncate { path, .. } => {
-            return clear(spans, rows, slots, n, room, s, path);
-        }
-        Message::Remove { path, .. } => {
-            return clear(spans, rows, slots, n, room, s, path);
-        }
-        Message::Create { .. } => room,
-        Message::Wstat { .. } => room,
     }
 }

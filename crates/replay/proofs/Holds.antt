@@ -19,7 +19,7 @@ use Rattle.tree.specs.declared.keys.Found.the-variants.{At, Gap}
 use Rattle.tree.specs.Shift.{insertAt, removeAt}
 use Rattle.tree.specs.Tree.{noRecord, recordAt, live, files, pathOf, Rise, Kept, Stands, put, inserted, removed}
 use Rattle.tree.proofs.Laws.{files-length, found-slot, found-path, found-alter, kept-put, live-removed, kept-remove, found-delete, free-slot, live-inserted, gap-insert, kept-insert, slot-there}
-use Rattle.runs.specs.Runs.{spanAt, vacant, gather, Live, Parts, Placed, Owned, Rising}
+use Rattle.runs.specs.Runs.{capacity, spanAt, vacant, gather, Live, Parts, Placed, Owned, Rising}
 use Rattle.runs.proofs.Slots.{slot-in}
 use Rattle.runs.proofs.Laws.{gather-open, open-placed, open-owned, gather-close, close-placed, close-owned, start-placed, start-owned, start-gather}
 use Rattle.change.specs.declared.room.Room.{Room}
@@ -171,9 +171,6 @@ module _ (t : Tree) (spans rows : List (List ℕ)) (room : Room) (h : Held t spa
   low : u < 256
   low = slot-there t (h .kept) (t .count) few
 
-  pub free-low : u < length spans
-  free-low = omega (arith, low, h .placed .parts .slots)
-
   pub inserted-gather : gather (set spans u vacant) rows (live (inserted j q t)) ≡ gather spans rows (live t)
   inserted-gather =
       ap (gather (set spans u vacant) rows) opened-live
@@ -194,7 +191,7 @@ module _ (t : Tree) (spans rows : List (List ℕ)) (room : Room) (h : Held t spa
 
 -- ---- the root alone
 
-module _ (t : Tree) (k : Kept t) (r : files t ≡ root ∷ []) (spans rows : List (List ℕ)) (hs : length spans ≡ 256) (hr : length rows ≡ 4096) where
+module _ (t : Tree) (k : Kept t) (r : files t ≡ root ∷ []) (spans rows : List (List ℕ)) (hs : length spans ≡ 256) (hr : length rows ≡ capacity) where
   abbrev first : ℕ
   first = getD (t .slots) 0 0
 

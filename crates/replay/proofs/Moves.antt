@@ -10,6 +10,7 @@ use lib.ListN.{length, set, getD}
 use Rattle.base.proofs.Tests.{lt-or, zero-one}
 use Rattle.base.proofs.Choices.{less-yes, less-no}
 use Rattle.meaning.specs.declared.Address.{Address}
+use Rattle.meaning.specs.declared.Extent.{Extent}
 use Rattle.meaning.specs.declared.Geometry.{Geometry}
 use Rattle.meaning.specs.declared.Message.{Message}
 use Rattle.meaning.specs.declared.Plan.{Plan}
@@ -18,27 +19,27 @@ use Rattle.meaning.specs.declared.Refusal.the-variants as refused
 use Rattle.meaning.specs.Answer.{no}
 use Rattle.meaning.specs.Flash.{Lent, imageOf}
 use Rattle.meaning.specs.Log.{logOf, replayed}
-use Rattle.meaning.specs.Replay.{bit31, isDir, isEmpty, look, alter, insert, delete, applies, judge, recordsAfter, extentsAfter, others, replay}
+use Rattle.meaning.specs.Replay.{bit31, isDir, isEmpty, look, alter, insert, delete, applies, judge, recordsAfter, extentsAfter, lay, others, replay}
 use Rattle.log.specs.declared.Cursor.{Cursor}
-use Rattle.log.specs.Cursor.{Ranged}
 use Rattle.tree.specs.declared.Tree.{Tree}
 use Rattle.tree.specs.declared.keys.Found.{Found}
 use Rattle.tree.specs.declared.keys.Found.the-variants as found
 use Rattle.tree.specs.Shift.{opened, closed}
 use Rattle.tree.specs.Tree.{recordAt, live, files, Kept, Rising, put, inserted, removed}
 use Rattle.tree.specs.Tree as trees
-use Rattle.tree.proofs.Laws.{files-length, kept-rising, found-look, found-slot, found-path, found-alter, found-delete, gap-look, gap-insert, slot-there}
+use Rattle.tree.proofs.Laws.{files-length, kept-rising, found-look, found-slot, found-path, found-alter, kept-remove, found-delete, gap-look, gap-insert, slot-there}
+use Rattle.extent.specs.Rows.{Fit}
 use Rattle.runs.specs.Runs.{gather, vacant, Live}
 use Rattle.change.specs.declared.edit.Edit.{Edit}
-use Rattle.change.specs.declared.edit.Edit.the-variants.{Ignored, Changed, Removed}
+use Rattle.change.specs.declared.edit.Edit.the-variants.{Ignored, Written, Truncated, Restated, Removed}
 use Rattle.change.specs.declared.edit.Made.{Made}
 use Rattle.change.specs.declared.edit.Made.the-variants.{File, Nothing}
 use Rattle.change.specs.declared.room.Room.{Room}
-use Rattle.change.specs.Edit.{subject, editOf, revised, newborn, stampedBy}
+use Rattle.change.specs.Edit.{subject, editOf, newborn, stampedBy}
 use Rattle.change.specs.Room.{Stands, Known, Laid, Turns, Some}
 use Rattle.replay.specs.Replay.{pathAt, Held}
-use Rattle.change.proofs.Steps.{ignored-there, changed-there, changed-records, removed-full, removed-there, removed-records, removed-extents, unborn, no-parent, no-directory, born-there, born-path, born-records, born-extents, revised-path, stamped-path, alter-absent}
-use Rattle.replay.proofs.Holds.{found-stands, found-known, held-put, held-same, removed-gather, held-removed, free-low, inserted-gather, held-inserted, live-so}
+use Rattle.change.proofs.Steps.{rank, recordOf, revised, made-revised, written-run, written-extents, truncated-extents, restated-extents, others-fewer, ignored-there, changed-there, changed-records, removed-full, removed-there, removed-records, removed-extents, unborn, no-parent, no-directory, born-there, born-path, born-records, born-extents, revised-path, stamped-path, alter-absent}
+use Rattle.replay.proofs.Holds.{found-stands, found-known, held-put, held-same, removed-gather, held-removed, inserted-gather, held-inserted, live-so}
 use Rattle.replay.proofs.Turns.{Going, Heard, goes-ignored, goes-applied, full-extents, full-records}
 
 insert-length : (f : Record) (fs : List Record) → length (insert f fs) ≡ length fs + 1
@@ -68,13 +69,41 @@ inserted-is t j q {keys} {slots} e a b =
     ap {B = Tree} (λ (x : ℕ). record { records = set (t .records) x q; keys = keys; slots = slots; count = t .count + 1 }) e
     ∙ ap₂ {C = Tree} (λ ks ss. record { records = set (t .records) (getD (t .slots) (t .count) 0) q; keys = ks; slots = ss; count = t .count + 1 }) a b
 
+-- ---- positions and slots
+
+module _ {t : Tree} (kept : Kept t) where
+  pub may-find : (t .count ≤ 256) × Rising (t .keys) (t .count)
+  may-find = (kept .few, kept-rising t kept)
+
+  module _ (q : ℕ) {i : ℕ} {x : Found} (f : trees.Stands (t .keys) (t .count) q x) (xe : x ≡ found.At i) where
+    there : trees.Stands (t .keys) (t .count) q (found.At i)
+    there = subst (trees.Stands (t .keys) (t .count) q) xe f
+
+    pub at-count : i < t .count
+    at-count = there .0
+
+    pub at-low : i < 256
+    at-low = omega (arith, there .0, kept .few)
+
+    pub at-slot : getD (t .slots) i 0 < 256
+    at-slot = found-slot t kept q i there
+
+    pub less-kept : {t₁ : Tree} → t₁ ≡ removed i t → Kept t₁
+    less-kept z = rw z (kept-remove t kept q i there)
+
+  module _ (q : ℕ) {j : ℕ} {x : Found} (f : trees.Stands (t .keys) (t .count) q x) (xe : x ≡ found.Gap j) where
+    pub gap-low : j ≤ t .count
+    gap-low = subst (trees.Stands (t .keys) (t .count) q) xe f .0
+
+pub free-slot : {t : Tree} {spans rows : List (List ℕ)} {room : Room} {s : ℕ} → Held t spans rows room → t .count < 256 → s ≡ getD (t .slots) (t .count) 0 → (s < length spans) × (s < 256)
+free-slot {t} h few z = let u = slot-there t (h .kept) (t .count) few in (omega (arith, u, h .placed .parts .slots), omega (arith, u))
+
+-- ---- a turn
+
 module _ {g : Geometry} {l : Lent} {p : Plan} {t : Tree} {spans rows : List (List ℕ)} {room : Room} {applied ignored : ℕ} {c : Cursor} (k : Going g l p t spans rows room applied ignored c)
     {m : Message} {a : Address} {d : Cursor} (y : Heard g l p c m a d) where
   abbrev kept : Kept t
   kept = k .held .kept
-
-  pub may-find : (t .count ≤ 256) × Rising (t .keys) (t .count)
-  may-find = (kept .few, kept-rising t kept)
 
   -- ---- the file is there
   module _ {q i : ℕ} {x : Found} (f : trees.Stands (t .keys) (t .count) q x) (xe : x ≡ found.At i) (qe : (q ≡ subject m) × (q < 2 ^ 32)) where
@@ -83,15 +112,6 @@ module _ {g : Geometry} {l : Lent} {p : Plan} {t : Tree} {spans rows : List (Lis
 
     stands : trees.Stands (t .keys) (t .count) (subject m) (found.At i)
     stands = subst (λ (z : ℕ). trees.Stands (t .keys) (t .count) z (found.At i)) (qe .0) (subst (trees.Stands (t .keys) (t .count) q) xe f)
-
-    pub at-count : i < t .count
-    at-count = stands .0
-
-    pub at-low : i < 256
-    at-low = omega (arith, stands .0, kept .few)
-
-    pub at-slot : s < 256
-    at-slot = found-slot t kept (subject m) i stands
 
     looked : look (subject m) (files t) ≡ some (recordAt t s)
     looked = found-look t kept (subject m) i stands
@@ -102,77 +122,101 @@ module _ {g : Geometry} {l : Lent} {p : Plan} {t : Tree} {spans rows : List (Lis
     known : Known (pathAt t) spans rows (live t) s (subject m)
     known = found-known t spans rows room (k .held) (subject m) i stands (omega (arith, qe .0, qe .1))
 
-    pub at-extents : Live (t .slots) (t .count) × Stands spans rows room (live t) s × Some spans rows (live t) s (subject m) × Ranged m
-    at-extents = (live-so t kept, found-stands t spans rows room (k .held) (subject m) i stands, (pathAt t, known), y .ranged)
+    -- ---- a change of its record: the rows hold what the message leaves of the extents
 
-    module _ {spans′ rows′ : List (List ℕ)} {room′ : Room} (w : Turns spans rows spans′ rows′ room′ (live t) s (subject m) (extentsAfter m (gather spans rows (live t)))) where
-      laid : Laid (pathAt t) spans′ rows′ room′ (live t) (extentsAfter m (gather spans rows (live t)))
-      laid = w (pathAt t) known
+    changed : {spans′ rows′ : List (List ℕ)} {room′ : Room} {v : Edit} {r : Record} {n : ℕ} → Laid (pathAt t) spans′ rows′ room′ (live t) (extentsAfter m (gather spans rows (live t)))
+        → room′ .used ≤ 1024 → v ≡ editOf m (recordAt t s) → 1 < rank v → recordOf v ≡ r → n ≡ applied + 1 → Going g l p (put s r t) spans′ rows′ room′ n ignored d
+    changed {spans′} {rows′} {room′} {r = r} laid u e h z nz =
+        let ch : 1 < rank (editOf m (recordAt t s)) = subst (λ (x : Edit). 1 < rank x) e h in
+        let rz : r ≡ revised m (recordAt t s) = sym z ∙ ap recordOf e ∙ made-revised m (recordAt t s) ch in
+        let e′ : r .path ≡ subject m = ap (λ (f : Record). f .path) rz ∙ revised-path m (recordAt t s) ∙ found-path t kept (subject m) i stands in
+        goes-applied k y nz (changed-there (files t) (recordAt t s) m looked ch)
+        (held-put t spans rows room (k .held) (subject m) i stands r e′ spans′ rows′ room′ _ laid (omega (arith, laid .used)))
+        (ap (λ (f : Record). files (put s f t)) rz ∙ found-alter t kept (subject m) i stands (revised m) ∙ sym (changed-records (files t) (recordAt t s) m ch))
+        (laid .all)
 
-      module _ {v : Edit} (e : v ≡ editOf m (recordAt t s)) where
-        pub at-changed : {r : Record} {n : ℕ} → v ≡ Changed → room′ .used ≤ 1024 → r ≡ revised m (recordAt t s) → n ≡ applied + 1 → Going g l p (put s r t) spans′ rows′ room′ n ignored d
-        at-changed {r} h u z nz =
-            let ch = sym e ∙ h in
-            let e′ : r .path ≡ subject m = ap (λ (f : Record). f .path) z ∙ revised-path m (recordAt t s) ∙ found-path t kept (subject m) i stands in
-            goes-applied k y nz (changed-there (files t) (recordAt t s) m looked ch)
-            (held-put t spans rows room (k .held) (subject m) i stands r e′ spans′ rows′ room′ _ laid (omega (arith, laid .used)))
-            (ap (λ (f : Record). files (put s f t)) z ∙ found-alter t kept (subject m) i stands (revised m) ∙ sym (changed-records (files t) (recordAt t s) m ch))
-            (laid .all)
+    pub at-restated : {v : Edit} {r : Record} {n : ℕ} → v ≡ editOf m (recordAt t s) → v ≡ Restated r → n ≡ applied + 1 → Going g l p (put s r t) spans rows room n ignored d
+    at-restated e h nz =
+        let xs = gather spans rows (live t) in
+        let same : Laid (pathAt t) spans rows room (live t) xs = record { parts = k .held .placed .parts; owned = k .held .owned; all = refl; used = k .held .used } in
+        changed (subst (Laid (pathAt t) spans rows room (live t)) (sym (restated-extents (recordAt t s) m xs (sym e ∙ h))) same)
+        (omega (arith, k .held .used, k .held .placed .few)) e (subst (λ (x : Edit). 1 < rank x) (sym h) (omega arith)) (ap recordOf h) nz
 
-        pub at-full : v ≡ Changed → 1024 < room′ .used → no (refused.Full a) ≡ replay (logOf g (replayed g (imageOf g l)))
-        at-full h u = full-extents k y (changed-there (files t) (recordAt t s) m looked (sym e ∙ h)) (omega (arith, laid .used))
+    module _ {v : Edit} {run : Extent} {r : Record} (e : v ≡ editOf m (recordAt t s)) (h : v ≡ Written run r) where
+      wrote : editOf m (recordAt t s) ≡ Written run r
+      wrote = sym e ∙ h
 
-        -- ---- a remove, of a file that may go
-        module _ (h : v ≡ Removed) (go : isDir (recordAt t s) ≡ true → isEmpty (subject m) (files t) ≡ true) where
-          ed : editOf m (recordAt t s) ≡ Removed
-          ed = sym e ∙ h
+      known-run : Known (pathAt t) spans rows (live t) s (run .path)
+      known-run = subst (Known (pathAt t) spans rows (live t) s) (sym (written-run (recordAt t s) m wrote .0)) known
 
-          cleared : Laid (pathAt t) spans′ rows′ room′ (live t) (others (subject m) (gather spans rows (live t)))
-          cleared = subst (Laid (pathAt t) spans′ rows′ room′ (live t)) (removed-extents (files t) (recordAt t s) m (gather spans rows (live t)) ed) laid
+      pub at-run : Live (t .slots) (t .count) × Stands spans rows room (live t) s × Some spans rows (live t) s (run .path) × Fit run
+      at-run = (live-so t kept, found-stands t spans rows room (k .held) (subject m) i stands, (pathAt t, known-run), written-run (recordAt t s) m wrote .1 (y .ranged))
 
-          module _ {t₁ : Tree} (z : t₁ ≡ removed i t) where
-            gone : Held t₁ spans′ rows′ room′
-            gone = rw z (held-removed t spans rows room (k .held) (subject m) i stands spans′ rows′ room′ cleared)
+      module _ {spans′ rows′ : List (List ℕ)} {room′ : Room} (w : Turns spans rows spans′ rows′ room′ (live t) s (run .path) (lay run (gather spans rows (live t)))) where
+        laid : Laid (pathAt t) spans′ rows′ room′ (live t) (extentsAfter m (gather spans rows (live t)))
+        laid = subst (Laid (pathAt t) spans′ rows′ room′ (live t)) (sym (written-extents (recordAt t s) m (gather spans rows (live t)) wrote)) (w (pathAt t) known-run)
 
-            gathered : gather spans′ rows′ (live t₁) ≡ extentsAfter m (gather spans rows (live t))
-            gathered = rw z (removed-gather t spans rows room (k .held) (subject m) i stands spans′ rows′ room′ cleared) ∙ sym (removed-extents (files t) (recordAt t s) m (gather spans rows (live t)) ed)
+        pub at-written : {n : ℕ} → room′ .used ≤ 1024 → n ≡ applied + 1 → Going g l p (put s r t) spans′ rows′ room′ n ignored d
+        at-written u nz = changed laid u e (subst (λ (x : Edit). 1 < rank x) (sym h) (omega arith)) (ap recordOf h) nz
 
-            deleted : files t₁ ≡ delete (subject m) (files t)
-            deleted = rw z (found-delete t kept (subject m) i stands)
+        pub at-full : 1024 < room′ .used → no (refused.Full a) ≡ replay (logOf g (replayed g (imageOf g l)))
+        at-full u = full-extents k y (changed-there (files t) (recordAt t s) m looked (subst (λ (x : Edit). 1 < rank x) (sym wrote) (omega arith))) (omega (arith, laid .used))
 
-            pub may-find-home : (t₁ .count ≤ 256) × Rising (t₁ .keys) (t₁ .count)
-            may-find-home = (gone .kept .few, kept-rising t₁ (gone .kept))
+    known-too : Known (pathAt t) spans rows (live t) s q
+    known-too = subst (Known (pathAt t) spans rows (live t) s) (sym (qe .0)) known
 
-            module _ {x₁ : Found} (f₁ : trees.Stands (t₁ .keys) (t₁ .count) (recordAt t s .parent) x₁) where
-              pub at-removed : {j n : ℕ} → x₁ ≡ found.Gap j → n ≡ applied + 1 → Going g l p t₁ spans′ rows′ room′ n ignored d
-              at-removed {j} xj nz =
-                  goes-applied k y nz (removed-there (files t) (recordAt t s) m looked ed go) gone
-                  (deleted
-                  ∙ sym (alter-absent (recordAt t s .parent) (stampedBy m) (delete (subject m) (files t))
-                  (ap (look (recordAt t s .parent)) (sym deleted) ∙ gap-look t₁ (gone .kept) (recordAt t s .parent) j (subst (trees.Stands (t₁ .keys) (t₁ .count) (recordAt t s .parent)) xj f₁)))
-                  ∙ sym (removed-records (files t) (recordAt t s) m looked ed))
-                  gathered
+    pub at-clear : Stands spans rows room (live t) s × Some spans rows (live t) s q
+    at-clear = (found-stands t spans rows room (k .held) (subject m) i stands, (pathAt t, known-too))
 
-              module _ {j : ℕ} (xj : x₁ ≡ found.At j) where
-                home : trees.Stands (t₁ .keys) (t₁ .count) (recordAt t s .parent) (found.At j)
-                home = subst (trees.Stands (t₁ .keys) (t₁ .count) (recordAt t s .parent)) xj f₁
+    module _ {spans′ : List (List ℕ)} {room′ : Room} (w : Turns spans rows spans′ rows room′ (live t) s q (others q (gather spans rows (live t)))) where
+      cleared : Laid (pathAt t) spans′ rows room′ (live t) (others (subject m) (gather spans rows (live t)))
+      cleared = subst (λ (z : ℕ). Laid (pathAt t) spans′ rows room′ (live t) (others z (gather spans rows (live t)))) (qe .0) (w (pathAt t) known-too)
 
-                pub home-low : j < 256
-                home-low = omega (arith, home .0, gone .kept .few)
+      pub at-truncated : {v : Edit} {r : Record} {n : ℕ} → v ≡ editOf m (recordAt t s) → v ≡ Truncated r → n ≡ applied + 1 → Going g l p (put s r t) spans′ rows room′ n ignored d
+      at-truncated e h nz =
+          let xs = gather spans rows (live t) in
+          changed (subst (Laid (pathAt t) spans′ rows room′ (live t)) (sym (truncated-extents (recordAt t s) m xs (sym e ∙ h))) cleared)
+          (omega (arith, cleared .used, others-fewer (subject m) xs, k .held .placed .few)) e (subst (λ (x : Edit). 1 < rank x) (sym h) (omega arith)) (ap recordOf h) nz
 
-                pub home-slot : getD (t₁ .slots) j 0 < 256
-                home-slot = found-slot t₁ (gone .kept) (recordAt t s .parent) j home
+    -- ---- a remove, of a file that may go
 
-                pub at-stamped : {r : Record} {n : ℕ} → r ≡ stampedBy m (recordAt t₁ (getD (t₁ .slots) j 0)) → n ≡ applied + 1 → Going g l p (put (getD (t₁ .slots) j 0) r t₁) spans′ rows′ room′ n ignored d
-                at-stamped {r} rz nz =
-                    let e′ : r .path ≡ recordAt t s .parent = ap (λ (f : Record). f .path) rz ∙ stamped-path m (recordAt t₁ (getD (t₁ .slots) j 0)) ∙ found-path t₁ (gone .kept) (recordAt t s .parent) j home in
-                    goes-applied k y nz (removed-there (files t) (recordAt t s) m looked ed go)
-                    (held-same t₁ spans′ rows′ room′ gone (recordAt t s .parent) j home r e′)
-                    (ap (λ (f : Record). files (put (getD (t₁ .slots) j 0) f t₁)) rz
-                    ∙ found-alter t₁ (gone .kept) (recordAt t s .parent) j home (stampedBy m)
-                    ∙ ap (alter (recordAt t s .parent) (stampedBy m)) deleted
-                    ∙ sym (removed-records (files t) (recordAt t s) m looked ed))
-                    gathered
+    module _ {spans′ : List (List ℕ)} {room′ : Room} (w : Turns spans rows spans′ rows room′ (live t) s q (others q (gather spans rows (live t)))) {v : Edit} (e : v ≡ editOf m (recordAt t s))
+        (h : v ≡ Removed) (go : isDir (recordAt t s) ≡ true → isEmpty (subject m) (files t) ≡ true) where
+      ed : editOf m (recordAt t s) ≡ Removed
+      ed = sym e ∙ h
+
+      module _ {t₁ : Tree} (z : t₁ ≡ removed i t) where
+        gone : Held t₁ spans′ rows room′
+        gone = rw z (held-removed t spans rows room (k .held) (subject m) i stands spans′ rows room′ (cleared w))
+
+        gathered : gather spans′ rows (live t₁) ≡ extentsAfter m (gather spans rows (live t))
+        gathered = rw z (removed-gather t spans rows room (k .held) (subject m) i stands spans′ rows room′ (cleared w)) ∙ sym (removed-extents (files t) (recordAt t s) m (gather spans rows (live t)) ed)
+
+        deleted : files t₁ ≡ delete (subject m) (files t)
+        deleted = rw z (found-delete t kept (subject m) i stands)
+
+        module _ {x₁ : Found} (f₁ : trees.Stands (t₁ .keys) (t₁ .count) (recordAt t s .parent) x₁) where
+          pub at-removed : {j n : ℕ} → x₁ ≡ found.Gap j → n ≡ applied + 1 → Going g l p t₁ spans′ rows room′ n ignored d
+          at-removed {j} xj nz =
+              goes-applied k y nz (removed-there (files t) (recordAt t s) m looked ed go) gone
+              (deleted
+              ∙ sym (alter-absent (recordAt t s .parent) (stampedBy m) (delete (subject m) (files t))
+              (ap (look (recordAt t s .parent)) (sym deleted) ∙ gap-look t₁ (gone .kept) (recordAt t s .parent) j (subst (trees.Stands (t₁ .keys) (t₁ .count) (recordAt t s .parent)) xj f₁)))
+              ∙ sym (removed-records (files t) (recordAt t s) m looked ed))
+              gathered
+
+          pub at-stamped : {j : ℕ} {r : Record} {n : ℕ} → x₁ ≡ found.At j → r ≡ stampedBy m (recordAt t₁ (getD (t₁ .slots) j 0)) → n ≡ applied + 1
+              → Going g l p (put (getD (t₁ .slots) j 0) r t₁) spans′ rows room′ n ignored d
+          at-stamped {j} {r} xj rz nz =
+              let o = there (gone .kept) (recordAt t s .parent) f₁ xj in
+              let e′ : r .path ≡ recordAt t s .parent = ap (λ (f : Record). f .path) rz ∙ stamped-path m (recordAt t₁ (getD (t₁ .slots) j 0)) ∙ found-path t₁ (gone .kept) (recordAt t s .parent) j o in
+              goes-applied k y nz (removed-there (files t) (recordAt t s) m looked ed go)
+              (held-same t₁ spans′ rows room′ gone (recordAt t s .parent) j o r e′)
+              (ap (λ (f : Record). files (put (getD (t₁ .slots) j 0) f t₁)) rz
+              ∙ found-alter t₁ (gone .kept) (recordAt t s .parent) j o (stampedBy m)
+              ∙ ap (alter (recordAt t s .parent) (stampedBy m)) deleted
+              ∙ sym (removed-records (files t) (recordAt t s) m looked ed))
+              gathered
 
     -- a directory with entries stays
     pub at-kept : {v : Edit} {u w : Bool} {n : ℕ} → v ≡ editOf m (recordAt t s) → v ≡ Removed → u ≡ bit31 (recordAt t s .perm) → u ≡ true → w ≡ isEmpty (recordAt t s .path) (files t) → w ≡ false
@@ -197,9 +241,6 @@ module _ {g : Geometry} {l : Lent} {p : Plan} {t : Tree} {spans rows : List (Lis
     missing : look (subject m) (files t) ≡ none
     missing = gap-look t kept (subject m) j gap
 
-    pub gap-low : j ≤ t .count
-    gap-low = gap .0
-
     pub gap-ignored : {v : Made} {n : ℕ} → v ≡ newborn m → v ≡ Nothing → n ≡ ignored + 1 → Going g l p t spans rows room applied n d
     gap-ignored e h z = goes-ignored k y z (unborn (files t) m missing (sym e ∙ h))
 
@@ -216,17 +257,8 @@ module _ {g : Geometry} {l : Lent} {p : Plan} {t : Tree} {spans rows : List (Lis
           abbrev parent : Record
           parent = recordAt t (getD (t .slots) i 0)
 
-          parent-at : trees.Stands (t .keys) (t .count) (r .parent) (found.At i)
-          parent-at = subst (trees.Stands (t .keys) (t .count) (r .parent)) xi f₁
-
-          pub parent-low : i < 256
-          parent-low = omega (arith, parent-at .0, kept .few)
-
-          pub parent-slot : getD (t .slots) i 0 < 256
-          parent-slot = found-slot t kept (r .parent) i parent-at
-
           parent-there : look (r .parent) (files t) ≡ some parent
-          parent-there = found-look t kept (r .parent) i parent-at
+          parent-there = found-look t kept (r .parent) i (there kept (r .parent) f₁ xi)
 
           pub gap-plain : {u : Bool} {n : ℕ} → u ≡ bit31 (parent .perm) → u ≡ false → n ≡ ignored + 1 → Going g l p t spans rows room applied n d
           unfolding isDir
@@ -239,9 +271,6 @@ module _ {g : Geometry} {l : Lent} {p : Plan} {t : Tree} {spans rows : List (Lis
 
             pub gap-full : t .count ≡ 256 → no (refused.Full a) ≡ replay (logOf g (replayed g (imageOf g l)))
             gap-full z = full-records k y born (rw (born-records r m (files t) nb) (omega (arith, insert-length r (files t), files-length t kept)))
-
-            pub gap-free : {s : ℕ} → t .count < 256 → s ≡ getD (t .slots) (t .count) 0 → (s < length spans) × (s < 256)
-            gap-free few z = (omega (arith, free-low t spans rows room (k .held) (subject m) j gap r (born-path r m nb) few), omega (arith, slot-there t kept (t .count) few))
 
             gap-inserted : {t₁ : Tree} {spans₁ : List (List ℕ)} {n : ℕ} → n ≡ applied + 1 → t .count < 256 → t₁ ≡ inserted j r t → spans₁ ≡ set spans (getD (t .slots) (t .count) 0) vacant
                 → Going g l p t₁ spans₁ rows room n ignored d

@@ -27,7 +27,7 @@ use Rattle.log.proofs.Told.{swept-low, active-low}
 use Rattle.tree.specs.declared.Tree.{Tree}
 use Rattle.tree.specs.Tree.{live, files, Kept}
 use Rattle.tree.proofs.Laws.{files-length}
-use Rattle.runs.specs.Runs.{gather, vacant}
+use Rattle.runs.specs.Runs.{capacity, gather, vacant}
 use Rattle.change.specs.declared.room.Room.{Room}
 use Rattle.replay.specs.Replay.{shape, Held}
 use Rattle.replay.proofs.Holds.{none-gathered, held-root}
@@ -48,7 +48,7 @@ pub record Heard (g : Geometry) (l : Lent) (p : Plan) (c : Cursor) (m : Message)
   pub ranged : Ranged m
 
 -- the root alone
-module _ (t : Tree) (f : files t ≡ root ∷ []) (k : Kept t) (spans rows : List (List ℕ)) (hs : length spans ≡ 256) (hr : length rows ≡ 4096) {spans′ : List (List ℕ)}
+module _ (t : Tree) (f : files t ≡ root ∷ []) (k : Kept t) (spans rows : List (List ℕ)) (hs : length spans ≡ 256) (hr : length rows ≡ capacity) {spans′ : List (List ℕ)}
     (e : spans′ ≡ set spans (getD (t .slots) 0 0) vacant) where
   pub start-held : Held t spans′ rows (record { bump = 0; used = 0 })
   start-held = rw e (held-root t k f spans rows hs hr)

@@ -1,2 +1,3 @@
 -- What replay keeps, and what it answers.
 pub mod Replay
+pub mod Near

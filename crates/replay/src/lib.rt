@@ -8,6 +8,7 @@ ghost use Rattle.meaning.specs.Log.{logOf, replayed};
 ghost use Rattle.meaning.specs.Replay.{replay as theReplay};
 ghost use Rattle.plan.specs.Select.{lent};
 ghost use Rattle.log.specs.Cursor.{Ready};
+ghost use Rattle.runs.specs.Runs.{capacity};
 ghost use Rattle.replay.specs.Replay.{answerOf, WholeHeld};
 use change::Edit;
 use change::Made;
@@ -48,7 +49,7 @@ pub fn replay(
     rows: &mut [[u32; 4]],
     scratch: &mut [[u32; 4]],
 ) -> Replayed
-    requires { ⌜ Ready g (lent (now tags) (now paths) (now contents)) p × (length (now spans) ≡ 256) × (length (now rows) ≡ 4096) × (1024 ≤ length (now scratch)) ⌝ }
+    requires { ⌜ Ready g (lent (now tags) (now paths) (now contents)) p × (length (now spans) ≡ 256) × (length (now rows) ≡ capacity) × (1024 ≤ length (now scratch)) ⌝ }
     ensures { λ r. ⌜ answerOf r (now (spans .exit)) (now (rows .exit)) ≡ theReplay (logOf g (replayed g (imageOf g (lent (now (tags .entry)) (now (paths .entry)) (now (contents .entry)))))) ⌝ }
     ensures { λ r. ⌜ WholeHeld r (now (spans .exit)) (now (rows .exit)) ⌝ }
 {
@@ -58,8 +59,9 @@ pub fn replay(
     let mut room = Room { bump: 0, used: 0 };
     let mut applied: u64 = 0;
     let mut ignored: u64 = 0;
-    // Where a path stood last, by its low bits: a guess that is tested before it is used.
+    // The slot of a path, by its low bits, and where a slot stood last: guesses that are tested before they are used.
     let mut near = [0u8; 1024];
+    let mut place = [0u8; 256];
     let Start::At(first) = log::first(g, tags, paths, contents, p) else {
         return Replayed {
             tree: t,
@@ -98,18 +100,18 @@ pub fn replay(
                 let n = t.count;
                 let path = change::path_of(m);
                 let low = (path % 1024) as usize;
-                match tree::find_near(&t.keys, n, path, near[low]) {
+                match near::find(&t.keys, n, path, &place, near[low]) {
                     Found::At(i) => {
-                        let at = i as u8;
-                        near[low] = at;
                         let s = t.slots[i] as usize;
+                        near[low] = s as u8;
+                        place[s] = i as u8;
                         let f = t.records[s];
                         match change::edit_of(m, f) {
                             Edit::Ignored => {
                                 ignored += 1; // "A message failing its test is ignored and counted."
                             }
-                            Edit::Changed => {
-                                room = change::extents_after(
+                            Edit::Written(run, q) => {
+                                room = change::lay_run(
                                     spans,
                                     rows,
                                     scratch,
@@ -117,7 +119,7 @@ pub fn replay(
                                     n,
                                     room,
                                     s,
-                                    m,
+                                    run,
                                 );
                                 if 1024 < room.used {
                                     return Replayed {
@@ -128,7 +130,17 @@ pub fn replay(
                                         said: Said::Refused(Refusal::Full(a)),
                                     };
                                 }
-                                t.records[s] = change::revised(m, f);
+                                t.records[s] = q;
+                                applied += 1;
+                                continue; // Most messages: with a way of its own to the head the compiler keeps more in registers.
+                            }
+                            Edit::Truncated(q) => {
+                                room = change::clear(spans, rows, &t.slots, n, room, s, path);
+                                t.records[s] = q;
+                                applied += 1;
+                            }
+                            Edit::Restated(q) => {
+                                t.records[s] = q;
                                 applied += 1;
                             }
                             Edit::Removed => {
@@ -138,19 +150,9 @@ pub fn replay(
                                         continue;
                                     }
                                 }
-                                room = change::extents_after(
-                                    spans,
-                                    rows,
-                                    scratch,
-                                    &t.slots,
-                                    n,
-                                    room,
-                                    s,
-                                    m,
-                                );
+                                room = change::clear(spans, rows, &t.slots, n, room, s, path);
                                 tree::close_key(&mut t.keys, n, i);
-                                tree::close_slot(&mut t.slots, n, i);
-                                near::shift_down(&mut near, at);
+                                near::close_slot(&mut t.slots, &mut place, n, i);
                                 t.count = n - 1;
                                 applied += 1;
                                 let Found::At(j) = tree::find(&t.keys, n - 1, f.parent) else {
@@ -171,8 +173,8 @@ pub fn replay(
                             continue;
                         };
                         let h = t.slots[k] as usize;
-                        let parent = t.records[h];
-                        if !tree::is_dir(parent.perm) {
+                        let perm = t.records[h].perm;
+                        if !tree::is_dir(perm) {
                             ignored += 1;
                             continue;
                         }
@@ -186,10 +188,8 @@ pub fn replay(
                             };
                         }
                         tree::open_key(&mut t.keys, n, j, q.path);
-                        let s = tree::open_slot(&mut t.slots, n, j) as usize;
-                        let at = j as u8;
-                        near::shift_up(&mut near, at);
-                        near[low] = at;
+                        let s = near::open_slot(&mut t.slots, &mut place, n, j) as usize;
+                        near[low] = s as u8;
                         runs::fresh(spans, s);
                         t.records[s] = q;
                         t.count = n + 1;

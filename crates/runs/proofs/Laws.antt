@@ -15,7 +15,7 @@ use Rattle.extent.specs.Rows.{extentOf, rowOf, Fit, Lined, EndsBy, StartsFrom, 
 use Rattle.extent.proofs.Line.{lined-wider, lined-higher, lined-above, lined-below}
 use Rattle.extent.proofs.Rows.{extents-of-rows, rows-within}
 use Rattle.extent.proofs.Laws.{lay-between, lay-lined, lay-adds, others-append, others-none, others-all, lined-own}
-use Rattle.runs.specs.Runs.{firstOf, manyOf, roomOf, spanAt, vacant, with, rowsOf, runsOf, gather, gatherRows, total, Stand, Distinct, Rising, Parts, Placed, Owned, Kept, put, Open, laidOver, spansLaid, rowsLaid}
+use Rattle.runs.specs.Runs.{capacity, firstOf, manyOf, roomOf, spanAt, vacant, with, rowsOf, runsOf, gather, gatherRows, total, Stand, Distinct, Rising, Parts, Placed, Owned, Kept, put, Open, laidOver, spansLaid, rowsLaid}
 use Rattle.runs.proofs.Lists.{put-length, put-own}
 use Rattle.runs.proofs.Slots.{Spot, spot-of, in-with, in-without, in-here, distinct-left, distinct-right, distinct-with, distinct-without, rising-left, rising-right, gather-append, gather-all, gather-same, own-length, rows-length, gather-rows}
 use Rattle.runs.proofs.Moves.{stand-of, rest-of, own-span, other-span, other-rows, reset}
@@ -316,13 +316,13 @@ module _ (path : ℕ → ℕ) (spans rows : List (List ℕ)) (bump : ℕ) (ls rs
 
 -- ---- the start: one file with no rows
 
-pub none-placed : (spans rows : List (List ℕ)) → length spans ≡ 256 → length rows ≡ 4096 → Placed spans rows 0 []
+pub none-placed : (spans rows : List (List ℕ)) → length spans ≡ 256 → length rows ≡ capacity → Placed spans rows 0 []
 none-placed spans rows hs hr = record {
   parts = record { slots = hs; arena = hr; top = omega arith; part = λ s i. absurd i; apart = λ s t i. absurd i; distinct = tt };
   few = omega arith;
 }
 
-module _ (path : ℕ → ℕ) (spans rows : List (List ℕ)) (s : ℕ) (hs : length spans ≡ 256) (hr : length rows ≡ 4096) (h : s < 256) (e : spanAt spans s ≡ vacant) where
+module _ (path : ℕ → ℕ) (spans rows : List (List ℕ)) (s : ℕ) (hs : length spans ≡ 256) (hr : length rows ≡ capacity) (h : s < 256) (e : spanAt spans s ≡ vacant) where
   is-vacant : spans ≡ set spans s vacant
   is-vacant = sym (set-getD spans s []) ∙ ap (set spans s) e
 

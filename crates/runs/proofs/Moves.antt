@@ -13,7 +13,7 @@ use Rattle.base.proofs.Lists.{in-left, in-split}
 use Rattle.extent.specs.Rows.{extentOf, rowOf, runs, Layable}
 use Rattle.extent.proofs.Rows.{runs-length}
 use Rattle.extent.proofs.Laws.{lay-adds}
-use Rattle.runs.specs.Runs.{firstOf, manyOf, roomOf, spanAt, with, rowsOf, gatherRows, total, Distinct, Part, Apart, Parts, Placed, put, Open, laidOver, spansLaid, rowsLaid, Stand, wanted, movedTo, Movable, closed, Roomed}
+use Rattle.runs.specs.Runs.{capacity, firstOf, manyOf, roomOf, spanAt, with, rowsOf, gatherRows, total, Distinct, Part, Apart, Parts, Placed, put, Open, laidOver, spansLaid, rowsLaid, Stand, wanted, movedTo, Movable, closed, Roomed}
 use Rattle.runs.proofs.Lists.{put-length, put-own, put-apart, put-back}
 use Rattle.runs.proofs.Slots.{Spot, spot-of, in-here, distinct-right, rows-append, own-length, rows-length, gather-length, gather-same, total-append, closedSpan, closed-length, closed-at}
 
@@ -78,8 +78,8 @@ module _ (spans : List (List ℕ)) (s : ℕ) (q : List ℕ) where
       → rowsOf (set spans s q) (put rows at ys) t ≡ rowsOf spans rows t
   other-rows rows at ys t n h o = rw (other-span t n) (put-apart rows at ys (firstOf (spanAt spans t)) (manyOf (spanAt spans t)) h o)
 
-  module _ (bump : ℕ) (ss : List ℕ) (r : Rest spans bump ss s) (rows′ : List (List ℕ)) (bump′ : ℕ) (hs : s < 256) (hr : length rows′ ≡ 4096) (hb : bump ≤ bump′)
-      (ht : bump′ ≤ 4096) (hm : manyOf q ≤ roomOf q) (hq : firstOf q + roomOf q ≤ bump′) (ha : (t : ℕ) → In t ss → t ≢ s → Apart q (spanAt spans t)) where
+  module _ (bump : ℕ) (ss : List ℕ) (r : Rest spans bump ss s) (rows′ : List (List ℕ)) (bump′ : ℕ) (hs : s < 256) (hr : length rows′ ≡ capacity) (hb : bump ≤ bump′)
+      (ht : bump′ ≤ capacity) (hm : manyOf q ≤ roomOf q) (hq : firstOf q + roomOf q ≤ bump′) (ha : (t : ℕ) → In t ss → t ≢ s → Apart q (spanAt spans t)) where
     mine : spanAt (set spans s q) s ≡ q
     mine = own-span (omega (arith, r .slots))
 
@@ -106,7 +106,7 @@ module _ (spans : List (List ℕ)) (s : ℕ) (q : List ℕ) where
 
 -- ---- a part moved to bump
 
-module _ (spans rows : List (List ℕ)) (bump : ℕ) (ss : List ℕ) (s : ℕ) (p : Placed spans rows bump ss) (i : In s ss) (h : bump + wanted (spanAt spans s) ≤ 4096) where
+module _ (spans rows : List (List ℕ)) (bump : ℕ) (ss : List ℕ) (s : ℕ) (p : Placed spans rows bump ss) (i : In s ss) (h : bump + wanted (spanAt spans s) ≤ capacity) where
   abbrev span : List ℕ
   span = spanAt spans s
 
@@ -233,7 +233,7 @@ module _ (spans rows : List (List ℕ)) (bump : ℕ) (ss : List ℕ) (p : Placed
   packed-placed = record { parts = packed-parts; few = rw (gather-same spans rows spansPacked rowsPacked ss packed-same) (p .few) }
 
   -- there is room then for any part moved
-  packed-fits : (s : ℕ) → In s ss → total spans ss + wanted (spanAt spansPacked s) ≤ 4096
+  packed-fits : (s : ℕ) → In s ss → total spans ss + wanted (spanAt spansPacked s) ≤ capacity
   packed-fits s i =
       let o : Spot s ss = spot-of s ss i in
       let z : total spans ss ≡ total spans (o .left ++ (s ∷ o .right)) = ap (total spans) (o .is) in
@@ -243,7 +243,7 @@ module _ (spans rows : List (List ℕ)) (bump : ℕ) (ss : List ℕ) (p : Placed
     packed-is : Placed spans₁ rows₁ b ss
     packed-is = rw (e .0, e .1, e .2) packed-placed
 
-    packed-room : b + wanted (spanAt spans₁ s) ≤ 4096
+    packed-room : b + wanted (spanAt spans₁ s) ≤ capacity
     packed-room = rw (e .0, e .1) (packed-fits s i)
 
     packed-kept : (t : ℕ) → In t ss → rowsOf spans₁ rows₁ t ≡ rowsOf spans rows t

@@ -9,6 +9,10 @@ use Rattle.base.specs.Member.{All, In}
 use Rattle.meaning.specs.Replay.{spot, lay}
 use Rattle.extent.specs.Rows.{extentOf, rowOf, Sound, Within}
 
+-- the rows of the arena: all live rows, packed, then the largest part that is moved (Moves: packed-fits), and room to pack seldom
+abbrev pub capacity : ℕ
+capacity = 4096
+
 abbrev pub firstOf : List ℕ → ℕ
 firstOf span = getD span 0 0
 
@@ -82,8 +86,8 @@ Apart a b = (firstOf a + roomOf a ≤ firstOf b) ⊎ (firstOf b + roomOf b ≤ f
 -- the parts of the slots ss share no row, and stand below bump
 pub record Parts (spans rows : List (List ℕ)) (bump : ℕ) (ss : List ℕ) : Type 0 where
   pub slots : length spans ≡ 256
-  pub arena : length rows ≡ 4096
-  pub top : bump ≤ 4096
+  pub arena : length rows ≡ capacity
+  pub top : bump ≤ capacity
   pub part : (s : ℕ) → In s ss → Part spans bump s
   pub apart : (s t : ℕ) → In s ss → In t ss → s ≢ t → Apart (spanAt spans s) (spanAt spans t)
   pub distinct : Distinct ss
@@ -140,7 +144,7 @@ pub record Movable (spans rows : List (List ℕ)) (bump s : ℕ) : Type 0 where
   pub slot : s < length spans
   pub stands : firstOf (spanAt spans s) + manyOf (spanAt spans s) ≤ length rows
   pub fits : bump + wanted (spanAt spans s) ≤ length rows
-  pub arena : length rows ≤ 4096
+  pub arena : length rows ≤ capacity
 
 -- the spans of parts with no rows free, one after another from a place on
 abbrev pub closed : List (List ℕ) → List (List ℕ) → List ℕ → ℕ → List (List ℕ)
