@@ -2,11 +2,14 @@
 -- Assumes nothing.
 use Prim.Native.Nat.{ℕ, _≤_}
 use mathlib.Core.Path.{_≡_, refl, sym, ap, subst, _∙_}
+use mathlib.Core.Bool.{false}
+use mathlib.Core.Logic.{⊎-elim}
 use mathlib.Core.List.{List}
 use mathlib.Core.Option.{Option, none, some}
 use native.Mathlib.Omega.{arith}
 use lib.ListN.{take}
 use borrow.Author.Tests.{eq-eqb, ne-eqb}
+use Rattle.base.proofs.Tests.{eq-or, zero-one}
 use Rattle.base.proofs.Ways.{holds, fails, yes=, no=}
 use Rattle.meaning.specs.declared.Extent.{Extent}
 use Rattle.meaning.specs.declared.Geometry.{Geometry}
@@ -14,10 +17,10 @@ use Rattle.meaning.specs.declared.Address.{Address}
 use Rattle.meaning.specs.declared.Refusal.{Refusal}
 use Rattle.meaning.specs.declared.Refusal.the-variants as refused
 use Rattle.meaning.specs.Answer as meant
-use Rattle.meaning.specs.Answer.{Answer, no, numberOf}
+use Rattle.meaning.specs.Answer.{no, numberOf}
 use Rattle.log.specs.declared.insertion.Point.{Point}
 use Rattle.log.specs.declared.insertion.Point.the-variants.{At, Nowhere}
-use Rattle.meaning.specs.Flash.{Lent, imageOf}
+use Rattle.meaning.specs.Flash.{Lent, imageOf, goodSize, goodGeometry, fits}
 use Rattle.meaning.specs.Mount as meaning
 use Rattle.meaning.specs.Mount.{mountOf}
 use Rattle.replay.specs.declared.Said.{Said}
@@ -31,7 +34,7 @@ use Rattle.outcome.specs.declared.Outcome.{Outcome}
 use Rattle.outcome.proofs.Back.{back, numbered}
 use Rattle.answer.specs.declared.Core.{Core}
 use Rattle.answer.specs.declared.Insertion.{Insertion}
-use Rattle.answer.specs.Mounted.{insertOf, insertionOf, mounted, outcomeOf, saidOf, Silent, Sizes, mountIn, Cored}
+use Rattle.answer.specs.Mounted.{insertOf, insertionOf, mounted, outcomeOf, saidOf, Sizes, mountIn, Cored, Housed}
 
 -- ---- numbers say what they stand for
 
@@ -107,6 +110,10 @@ one-core s xs c t = λ i. record {
   };
 }
 
+zero-size : goodSize 0 ≡ false
+unfolding goodSize
+zero-size = refl
+
 module _ (g : Geometry) (l : Lent) where
   -- "the record table has 256 places"
   in-256 : (places : ℕ) → places ≡ 256 → mountIn g l places ≡ mountOf g l
@@ -116,6 +123,14 @@ module _ (g : Geometry) (l : Lent) where
   in-other : (places : ℕ) → (places ≡ 256 → ⊥) → mountIn g l places ≡ no refused.Geometry
   unfolding mountIn
   in-other places h = sym (fails _ _ _ (ne-eqb places 256 h) refl)
+
+  no-size : (h : Geometry) → h .size ≡ 0 → fits h l ≡ false
+  unfolding fits goodGeometry
+  no-size h e = rw (ap goodSize e ∙ zero-size)
+
+  unfit : (h : Geometry) → h .size ≡ 0 → mountOf h l ≡ no refused.Geometry
+  unfolding mountOf
+  unfit h e = sym (fails _ _ _ (no-size h e) refl)
 
   module _ (s : Shown) (rows : List (List ℕ)) where
     few-by : (x : Said) → show.Sizes x g l s rows → (s .files ≤ 256) × (s .extents ≤ 1024)
@@ -137,17 +152,16 @@ module _ (g : Geometry) (l : Lent) where
         insert = i;
       }
 
-      core-is : (places : ℕ) → places ≡ 256 → show.showing s rows ≡ mountOf g l → show.Sized g l s rows → Cored g l places (core s xs)
-      core-is places h z k = record {
+      core-is : (places : ℕ) → show.showing s rows ≡ mountIn g l places → show.Sized g l s rows → s .files ≤ places → Cored g l places (core s xs)
+      core-is places z k h = record {
         same = refl;
         few = few-shown k .0;
-        room = omega (arith, few-shown k .0);
+        room = h;
         shows =
             ap (λ (x : Said). answerBy x (mounted (core s xs .answer) (s .records))) (said-back (s .said))
             ∙ ap (λ (i : Option ℕ). answerBy (s .said) (told (take (s .extents) xs) i)) (insert-back (placeOf (s .insertion)))
             ∙ ap (λ (ys : List Extent). answerBy (s .said) (told ys (placeOf (s .insertion)))) e
-            ∙ z
-            ∙ sym (in-256 places h);
+            ∙ z;
         sized = (
           subst (λ (x : Said). Sizes x g l (core s xs .answer)) (sym (said-back (s .said))) (sizes-by (s .said) k),
           ap outcomeOf (sym (said-back (s .said))),
@@ -155,23 +169,24 @@ module _ (g : Geometry) (l : Lent) where
         );
       }
 
-      pub cored : (places : ℕ) (c : Core) → places ≡ 256 → Tells s xs c → show.showing s rows ≡ mountOf g l → show.Sized g l s rows → Cored g l places c
-      cored places c h t z k = subst (Cored g l places) (sym (one-core s xs c t)) (core-is places h z k)
+  -- a mount by the geometry h, which is g where there are 256 places, and fits nothing where there are not
+  module _ (places : ℕ) (h : Geometry) (w : Housed g places h) where
+    houses : mountOf h l ≡ mountIn g l places
+    houses = ⊎-elim
+        (λ (e : places ≡ 256). ap (λ (x : Geometry). mountOf x l) (w .same e) ∙ sym (in-256 places e))
+        (λ (n : places ≡ 256 → ⊥). unfit h (w .none n) ∙ sym (in-other places n))
+        (eq-or places 256)
 
-  pub cored-other : (places : ℕ) (c : Core) → (places ≡ 256 → ⊥)
-      → (c .n ≡ 0) × (c .answer .said ≡ outcomeOf (Refused refused.Geometry)) × (c .answer .insertion ≡ insertionOf none) × Silent (c .answer)
-      → Cored g l places c
-  cored-other places c h k = record {
-    same = k .3 .0 ∙ sym (k .0);
-    few = omega (arith, k .0);
-    room = omega (arith, k .0);
-    shows = ap (λ (x : Said). answerBy x (mounted (c .answer) (c .all))) said ∙ sym (in-other places h);
-    sized = (
-      subst (λ (x : Said). Sizes x g l (c .answer)) (sym said) (k .3),
-      k .1 ∙ ap outcomeOf (sym said),
-      k .2 ∙ ap insertionOf (sym (ap insertOf (k .2) ∙ insert-back none)),
-    );
-  }
-    where
-      said : saidOf (c .answer .said) ≡ Refused refused.Geometry
-      said = ap saidOf (k .1) ∙ said-back (Refused refused.Geometry)
+    module _ (s : Shown) (rows : List (List ℕ)) (z : show.showing s rows ≡ mountOf h l) (k : show.Sized h l s rows) where
+      silent-by : (x : Said) → answerBy x (show.mounted s rows) ≡ no refused.Geometry → show.Sizes x h l s rows → show.Sizes x g l s rows × (s .files ≤ places)
+      silent-by Whole e y = let o : _≡_ {A = ℕ} 0 1 = cc in absurd (zero-one o)
+      silent-by (Refused x) e y = (y, omega (arith, y .0))
+
+      sized-so : show.Sized g l s rows × (s .files ≤ places)
+      sized-so = ⊎-elim
+          (λ (e : places ≡ 256). (subst (λ (x : Geometry). show.Sized x l s rows) (w .same e) k, omega (arith, few-by s rows (s .said) (subst (λ (x : Geometry). show.Sized x l s rows) (w .same e) k) .0)))
+          (λ (n : places ≡ 256 → ⊥). silent-by (s .said) (z ∙ unfit h (w .none n)) k)
+          (eq-or places 256)
+
+      pub cored : (xs : List Extent) → take (s .extents) xs ≡ rowsShown rows (s .extents) → (c : Core) → Tells s xs c → Cored g l places c
+      cored xs e c t = subst (Cored g l places) (sym (one-core s xs c t)) (core-is s rows xs e places (z ∙ houses) (sized-so .0) (sized-so .1))

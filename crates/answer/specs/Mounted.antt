@@ -75,6 +75,11 @@ Sized g l r =
 unfoldable pub mountIn : Geometry → Lent → ℕ → Answer meaning.Mounted
 mountIn g l places = ifTrue (eqb places 256) (mountOf g l) (no refused.Geometry)
 
+-- the geometry by which to mount: with any other table none that slices fit
+pub record Housed (g : Geometry) (places : ℕ) (r : Geometry) : Type 0 where
+  pub same : places ≡ 256 → r ≡ g
+  pub none : (places ≡ 256 → ⊥) → r .size ≡ 0
+
 pub record Cored (g : Geometry) (l : Lent) (places : ℕ) (r : Core) : Type 0 where
   pub same : r .answer .records ≡ r .n
   pub few : r .n ≤ 256

@@ -3,20 +3,15 @@
 ghost use mathlib.Core.Path.{_≡_};
 ghost use Prim.Native.Nat.{_≤_};
 ghost use mathlib.Core.List.{map};
-ghost use mathlib.Core.Option.{none};
 ghost use lib.ListN.{length, take};
 ghost use Rattle.plan.specs.Select.{lent};
 ghost use Rattle.extent.specs.Rows.{extentOf};
-ghost use Rattle.meaning.specs.declared.Refusal.the-variants as no;
 ghost use Rattle.shown.specs.Shown.{placeOf};
-ghost use Rattle.replay.specs.declared.Said.the-variants.{Refused};
-ghost use Rattle.answer.specs.Mounted.{insertionOf, outcomeOf, Silent, Cored};
+ghost use Rattle.answer.specs.Mounted.{insertionOf, outcomeOf, Cored, Housed};
 use log::insertion::Point;
 use meaning::Extent;
 use meaning::Geometry;
-use meaning::Place;
 use meaning::Record;
-use meaning::Refusal;
 use outcome::Outcome;
 use replay::Said;
 use used::Erase;
@@ -105,61 +100,28 @@ fn extents_of(rows: &[[u32; 4]], n: usize) -> [Extent; 1024]
     extents
 }
 
-// GEOMETRY: "a slice length is wrong".
-fn refused() -> Core
-    ensures { λ r. ⌜ (r .n ≡ 0) × (r .answer .said ≡ outcomeOf (Refused no.Geometry)) × (r .answer .insertion ≡ insertionOf none) × Silent (r .answer) ⌝ }
+// GEOMETRY: "a slice length is wrong". A table that has not 256 places is refused as a geometry that no slices fit: a mount goes one
+// way to its answer, so that the answer is copied no more than it must be.
+fn within(g: Geometry, places: usize) -> Geometry
+    ensures { λ r. ⌜ Housed g places r ⌝ }
 {
-    let none = Place { at: 0, len: 0 };
-    let empty = Record {
-        path: 0,
-        parent: 0,
-        perm: 0,
-        length: 0,
-        cvers: 0,
-        mtime: 0,
-        name: none,
-        uid: none,
-        gid: none,
-        muid: none,
-    };
-    let zero = Extent {
-        path: 0,
-        offset: 0,
-        count: 0,
-        address: 0,
-    };
-    let erase = Erase {
-        blocks: [0; 1024],
-        count: 0,
-    };
-    let said = ended(Said::Refused(Refusal::Geometry));
-    let insertion = insertion_at(Point::Nowhere);
-    Core {
-        all: [empty; 256],
-        n: 0,
-        answer: Mounted {
-            records: 0,
-            extents: [zero; 1024],
-            runs: 0,
-            used: [0; 1024],
-            erase,
-            insertion,
-            applied: 0,
-            ignored: 0,
-            said,
-        },
+    if places != 256 {
+        return Geometry {
+            size: 0,
+            pages: 0,
+            blocks: 0,
+        };
     }
+    g
 }
 
 /// All that a mount shows, where the table has so many places; any but 256 are refused. A refusal has no records.
 pub fn show_all(g: Geometry, tags: &[u8], paths: &[u64], contents: &[u8], places: usize) -> Core
     ensures { λ r. ⌜ Cored g (lent (now (tags .entry)) (now (paths .entry)) (now (contents .entry))) places r ⌝ }
 {
-    if places != 256 {
-        return refused();
-    }
+    let h = within(g, places);
     let mut rows = [[0u32; 4]; 1024];
-    let s = shown::show(g, tags, paths, contents, &mut rows);
+    let s = shown::show(h, tags, paths, contents, &mut rows);
     let extents = extents_of(&rows, s.extents);
     let all = s.records;
     let used = s.used;

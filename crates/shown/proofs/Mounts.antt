@@ -56,7 +56,7 @@ use Rattle.replay.proofs.Holds.{rising-paths}
 use Rattle.shown.proofs.Lines.{gather-within}
 use Rattle.shown.specs.declared.Shown.{Shown}
 use Rattle.shown.specs.Shown as show
-use Rattle.shown.specs.Shown.{rowsShown, treeOf, answer, Told, mounted, showing, later, placeOf, Lines, Silent}
+use Rattle.shown.specs.Shown.{rowsShown, treeOf, answer, mounted, showing, later, placeOf, Lines, Silent}
 
 -- ---- the tree after the log
 
@@ -95,8 +95,9 @@ module _ (r : Replayed) (spans rows : List (List ℕ)) (w : WholeHeld r spans ro
         let k : length (gatherRows spans rows (live (r .tree))) ≡ r .room .used = rows-length spans rows (live (r .tree)) stands ∙ sym used-total in
         rw (g .1, take-at (gatherRows spans rows (live (r .tree))) _ (r .room .used) k)
 
-    pub whole-told : Told r out′
-    whole-told = subst (λ (s : Said). show.InOrder s r out′) (sym e) (
+    -- the tree stands in order, and there are rows for its extents
+    pub whole-told : Kept (r .tree) × (r .room .used ≤ 1024) × Lines (take (r .room .used) out′)
+    whole-told = (
       held .kept,
       omega (arith, used-total, total-few),
       subst Lines (sym taken) (gather-within (pathAt (r .tree)) spans rows (live (r .tree)) (held .owned) (rising-paths (r .tree) (held .kept))),
@@ -108,14 +109,11 @@ module _ (r : Replayed) (spans rows : List (List ℕ)) (w : WholeHeld r spans ro
         (gathered-runs spans rows out out′ (live (r .tree)) (r .room .used) stands (used-total, g .1)) ∙ q
 
 module _ {x : Refusal} (r : Replayed) (out : List (List ℕ)) (e : r .said ≡ Refused x) where
-  pub stopped-told : Told r out
-  stopped-told = subst (λ (s : Said). show.InOrder s r out) (sym e) tt
-
   pub stopped-answer : {a : Answer meaning.Tree} (spans rows : List (List ℕ)) → answerOf r spans rows ≡ a → answer r out ≡ a
   stopped-answer spans rows q =
       ap (λ (s : Said). answerBy s (treeOf r out)) e ∙ sym (ap (λ (s : Said). answerBy s (shape (r .tree) spans rows (r .applied) (r .ignored))) e) ∙ q
 
--- ---- what is shown of a tree
+-- ---- the parts of what is shown
 
 take-all : {A : Type 0} (xs : List A) → take (length xs) xs ≡ xs
 take-all [] = refl
@@ -141,58 +139,6 @@ files-fit t records k e =
     let a : length (live t) ≡ t .count = length-take-le (t .count) (t .slots) (omega (arith, k .few, k .slots-len)) in
     omega (arith, ap length e, length-map (live t) (recordAt t), a, length-take (t .count) records)
 
-module _ (g : Geometry) (l : Lent) (p : Plan) (k : Ready g l p) where
-  pub pages-few : g .pages ≤ 32
-  pages-few = sizes g l (k .fit) .pages
-
-  pub tags-few : length (l .tags) ≤ 1024
-  tags-few = omega (arith, sizes g l (k .fit) .tags, sizes g l (k .fit) .blocks)
-
-  module _ (r : Replayed) (xs : List (List ℕ)) (n : r .room .used ≡ length xs) (records : List Record) {masks : List ℕ} {erase : Erase} {ins : Point}
-      (mz : masks ≡ listed 1024 (usedBits (over (length (l .tags)) g) (labelsOf (l .tags) (l .paths)) (map extentOf xs)))
-      (ez : erase ≡ eraseOf (eraseBy (length (l .tags)) (labelsOf (l .tags) (l .paths)) p masks))
-      (iz : ins ≡ point (insertion g (replayed g (imageOf g l))))
-      (rz : take (r .tree .count) records ≡ files (r .tree)) where
-    all-rows : rowsShown xs (r .room .used) ≡ map extentOf xs
-    all-rows = ap (λ (j : ℕ). rowsShown xs j) n ∙ ap (map extentOf) (take-all xs)
-
-    abbrev whole : Shown
-    whole = record {
-      records = records;
-      files = r .tree .count;
-      extents = r .room .used;
-      used = masks;
-      erase = erase;
-      insertion = ins;
-      applied = r .applied;
-      ignored = r .ignored;
-      said = Whole;
-    }
-
-    pub whole-mounted : mounted whole xs ≡ shown g (imageOf g l) (treeOf r xs)
-    unfolding shown imageOf
-    whole-mounted =
-        ap {B = Mounted} (λ rs. record { tree = record { records = rs; extents = rowsShown xs (r .room .used); applied = r .applied; ignored = r .ignored }; erase = take (erase .count) (erase .blocks); insert = placeOf ins }) rz
-        ∙ ap₂ {C = Mounted} (λ b o. record { tree = treeOf r xs; erase = b; insert = o })
-        (erase-taken g l p (map extentOf xs) masks (k .fit) (k .plan) mz erase ez ∙ ap (eraseList g (labelsOf (l .tags) (l .paths))) (sym all-rows))
-        (ap placeOf iz ∙ placed-back _)
-
-    erase-few : eraseOf (eraseBy (length (l .tags)) (labelsOf (l .tags) (l .paths)) p masks) .count ≤ 1024
-    unfolding eraseOf eraseBy
-    erase-few = omega (arith, places-few (length (l .tags)) (λ i. erasable (length (l .tags)) (labelsOf (l .tags) (l .paths)) p (getD masks i 0) i), tags-few)
-
-    pub whole-sizes : Kept (r .tree) → length xs ≤ 1024 → Lines xs → show.Sizes Whole g l whole xs
-    unfolding imageOf
-    whole-sizes kt few up = (
-      kt .few,
-      omega arith,
-      subst (λ (x : Erase). x .count ≤ 1024) (sym ez) erase-few,
-      masks-are 1024 g l (labelsOf (l .tags) (l .paths)) (map extentOf xs) (k .fit) mz ∙ ap (λ (ys : List Extent). listed 1024 (usedBits g (labelsOf (l .tags) (l .paths)) ys)) (sym all-rows),
-      ez ∙ ap eraseOf (erase-is g l p (map extentOf xs) masks (k .fit) (k .plan) mz ∙ ap (eraseList g (labelsOf (l .tags) (l .paths))) (sym all-rows)),
-      subst Lines (sym (ap (λ (j : ℕ). take j xs) n ∙ take-all xs)) up,
-      files-fit (r .tree) records kt rz,
-    )
-
 take-same : {A : Type 0} (n : ℕ) (xs : List A) → take n (take n xs) ≡ take n xs
 take-same zero xs = refl
 take-same (suc n) [] = refl
@@ -211,9 +157,6 @@ part-is rows n = ap (λ (k : ℕ). take k rows) (sub-zero n)
 
 pub part-length : (rows : List (List ℕ)) (n : ℕ) → n ≤ 1024 → 1024 ≤ length rows → n ≡ length (take (n - 0) (drop 0 rows))
 part-length rows n h k = sym (ap length (part-is rows n) ∙ length-take-le n rows (omega arith))
-
-pub told-few : (r : Replayed) (rows : List (List ℕ)) → Told r rows → r .said ≡ Whole → Kept (r .tree) × (r .room .used ≤ 1024) × Lines (take (r .room .used) rows)
-told-few r rows t e = subst (λ (s : Said). show.InOrder s r rows) e t
 
 -- ---- after the labels
 
@@ -254,13 +197,13 @@ true-or : (b : Bool) → (b ≡ true) ⊎ (b ≡ false)
 true-or true = inl refl
 true-or false = inr refl
 
-pub whole-shows : {a : Answer Mounted} {t : Mounted} (s : Shown) (xs rows : List (List ℕ)) (n : ℕ) → xs ≡ take n rows → s .extents ≡ n → s .said ≡ Whole → mounted s xs ≡ t → a ≡ ok t → showing s rows ≡ a
+whole-shows : {a : Answer Mounted} {t : Mounted} (s : Shown) (xs rows : List (List ℕ)) (n : ℕ) → xs ≡ take n rows → s .extents ≡ n → s .said ≡ Whole → mounted s xs ≡ t → a ≡ ok t → showing s rows ≡ a
 whole-shows s xs rows n xe ne e h z =
     ap (λ (y : Said). answerBy y (mounted s rows)) e
     ∙ ap {B = Answer Mounted} (λ ys. ok (record { tree = record { records = take (s .files) (s .records); extents = ys; applied = s .applied; ignored = s .ignored }; erase = take (s .erase .count) (s .erase .blocks); insert = placeOf (s .insertion) })) (sym (same-rows xs rows n (s .extents) xe ne))
     ∙ ap {B = Answer Mounted} ok h ∙ sym z
 
-pub whole-sized : (g : Geometry) (l : Lent) (s : Shown) (xs rows : List (List ℕ)) (n : ℕ) → xs ≡ take n rows → s .extents ≡ n → s .said ≡ Whole → show.Sizes Whole g l s xs → show.Sized g l s rows
+whole-sized : (g : Geometry) (l : Lent) (s : Shown) (xs rows : List (List ℕ)) (n : ℕ) → xs ≡ take n rows → s .extents ≡ n → s .said ≡ Whole → show.Sizes Whole g l s xs → show.Sized g l s rows
 whole-sized g l s xs rows n xe ne e h = subst (λ (y : Said). show.Sizes y g l s rows) (sym e) (
   h .0,
   h .1,
@@ -270,6 +213,68 @@ whole-sized g l s xs rows n xe ne e h = subst (λ (y : Said). show.Sizes y g l s
   subst Lines (same-front xs rows n (s .extents) xe ne) (h .5),
   h .6,
 )
+
+-- ---- what is shown of a tree whose extents' data is there
+
+module _ (g : Geometry) (l : Lent) (p : Plan) (k : Ready g l p) where
+  pub pages-few : g .pages ≤ 32
+  pages-few = sizes g l (k .fit) .pages
+
+  pub tags-few : length (l .tags) ≤ 1024
+  tags-few = omega (arith, sizes g l (k .fit) .tags, sizes g l (k .fit) .blocks)
+
+  module _ (r : Replayed) (xs : List (List ℕ)) (n : r .room .used ≡ length xs) (records : List Record) {masks : List ℕ} {erase : Erase} {ins : Point}
+      (mz : masks ≡ listed 1024 (usedBits (over (length (l .tags)) g) (labelsOf (l .tags) (l .paths)) (map extentOf xs)))
+      (ez : erase ≡ eraseOf (eraseBy (length (l .tags)) (labelsOf (l .tags) (l .paths)) p masks))
+      (iz : ins ≡ point (insertion g (replayed g (imageOf g l))))
+      (rz : take (r .tree .count) records ≡ files (r .tree)) where
+    all-rows : rowsShown xs (r .room .used) ≡ map extentOf xs
+    all-rows = ap (λ (j : ℕ). rowsShown xs j) n ∙ ap (map extentOf) (take-all xs)
+
+    abbrev whole : ℕ → Shown
+    whole m = record {
+      records = records;
+      files = r .tree .count;
+      extents = m;
+      used = masks;
+      erase = erase;
+      insertion = ins;
+      applied = r .applied;
+      ignored = r .ignored;
+      said = Whole;
+    }
+
+    whole-mounted : mounted (whole (r .room .used)) xs ≡ shown g (imageOf g l) (treeOf r xs)
+    unfolding shown imageOf
+    whole-mounted =
+        ap {B = Mounted} (λ rs. record { tree = record { records = rs; extents = rowsShown xs (r .room .used); applied = r .applied; ignored = r .ignored }; erase = take (erase .count) (erase .blocks); insert = placeOf ins }) rz
+        ∙ ap₂ {C = Mounted} (λ b o. record { tree = treeOf r xs; erase = b; insert = o })
+        (erase-taken g l p (map extentOf xs) masks (k .fit) (k .plan) mz erase ez ∙ ap (eraseList g (labelsOf (l .tags) (l .paths))) (sym all-rows))
+        (ap placeOf iz ∙ placed-back _)
+
+    erase-few : eraseOf (eraseBy (length (l .tags)) (labelsOf (l .tags) (l .paths)) p masks) .count ≤ 1024
+    unfolding eraseOf eraseBy
+    erase-few = omega (arith, places-few (length (l .tags)) (λ i. erasable (length (l .tags)) (labelsOf (l .tags) (l .paths)) p (getD masks i 0) i), tags-few)
+
+    whole-sizes : Kept (r .tree) → length xs ≤ 1024 → Lines xs → show.Sizes Whole g l (whole (r .room .used)) xs
+    unfolding imageOf
+    whole-sizes kt few up = (
+      kt .few,
+      omega arith,
+      subst (λ (x : Erase). x .count ≤ 1024) (sym ez) erase-few,
+      masks-are 1024 g l (labelsOf (l .tags) (l .paths)) (map extentOf xs) (k .fit) mz ∙ ap (λ (ys : List Extent). listed 1024 (usedBits g (labelsOf (l .tags) (l .paths)) ys)) (sym all-rows),
+      ez ∙ ap eraseOf (erase-is g l p (map extentOf xs) masks (k .fit) (k .plan) mz ∙ ap (eraseList g (labelsOf (l .tags) (l .paths))) (sym all-rows)),
+      subst Lines (sym (ap (λ (j : ℕ). take j xs) n ∙ take-all xs)) up,
+      files-fit (r .tree) records kt rz,
+    )
+
+    -- the rows are the first of those that are lent
+    pub whole-answered : (rows : List (List ℕ)) → xs ≡ take (r .room .used) rows → Kept (r .tree) × (r .room .used ≤ 1024) × Lines (take (r .room .used) rows)
+        → later g l ≡ ok (shown g (imageOf g l) (treeOf r xs)) → (m : ℕ) → m ≡ r .room .used → (showing (whole m) rows ≡ later g l) × show.Sized g l (whole m) rows
+    whole-answered rows xe kept a m e = subst (λ (j : ℕ). (showing (whole j) rows ≡ later g l) × show.Sized g l (whole j) rows) (sym e) (
+      whole-shows (whole (r .room .used)) xs rows (r .room .used) xe refl refl whole-mounted a,
+      whole-sized g l (whole (r .room .used)) xs rows (r .room .used) xe refl refl (whole-sizes (kept .0) (omega arith) (subst Lines (sym xe) (kept .2))),
+    )
 
 -- ---- the labels
 

@@ -13,7 +13,7 @@ use Rattle.meaning.specs.Replay as meaning
 use Rattle.meaning.specs.Replay.{replay}
 use Rattle.meaning.specs.Mount.{Mounted, absent, eraseList, shown}
 use Rattle.extent.specs.Rows.{extentOf, Within}
-use Rattle.tree.specs.Tree.{files, Kept}
+use Rattle.tree.specs.Tree.{files}
 use Rattle.log.specs.declared.insertion.Point.{Point}
 use Rattle.log.specs.declared.insertion.Point.the-variants.{At, Nowhere}
 use Rattle.replay.specs.declared.Replayed.{Replayed}
@@ -39,14 +39,6 @@ answer r rows = answerBy (r .said) (treeOf r rows)
 -- the rows are extents, sorted and disjoint
 abbrev pub Lines : List (List ℕ) → Type 0
 Lines rows = (top : ℕ) × Within 0 top rows
-
--- a whole replay's tree stands in order, and there are rows for its extents
-abbrev pub InOrder : Said → Replayed → List (List ℕ) → Type 0
-InOrder Whole r rows = Kept (r .tree) × (r .room .used ≤ 1024) × Lines (take (r .room .used) rows)
-InOrder (Refused x) r rows = Unit {0}
-
-abbrev pub Told : Replayed → List (List ℕ) → Type 0
-Told r rows = InOrder (r .said) r rows
 
 -- ---- the answer
 

@@ -2,15 +2,11 @@
 ghost use mathlib.Core.Path.{_≡_};
 ghost use Prim.Native.Nat.{_≤_};
 ghost use lib.ListN.{length};
-ghost use Rattle.meaning.specs.Flash.{imageOf};
-ghost use Rattle.meaning.specs.Log.{logOf, replayed};
-ghost use Rattle.meaning.specs.Replay.{replay as theReplay};
-ghost use Rattle.meaning.specs.Mount.{mountOf, shown as theShown};
+ghost use Rattle.meaning.specs.Mount.{mountOf};
 ghost use Rattle.plan.specs.Select.{lent};
 ghost use Rattle.log.specs.Cursor.{Ready};
-ghost use Rattle.shown.specs.Shown.{answer, later, mounted, showing, treeOf, Lines, Told, Silent, Sized, Sizes};
-ghost use Rattle.replay.specs.declared.Said.the-variants.{Whole, Refused};
-ghost use Rattle.tree.specs.Tree.{Kept};
+ghost use Rattle.shown.specs.Shown.{later, showing, Silent, Sized};
+ghost use Rattle.replay.specs.declared.Said.the-variants.{Refused};
 use log::insertion::Point;
 use meaning::Geometry;
 use meaning::Place;
@@ -18,7 +14,6 @@ use meaning::Plan;
 use meaning::Record;
 use meaning::Refusal;
 use plan::Selected;
-use replay::Replayed;
 use replay::Said;
 use used::Erase;
 use used::Missing;
@@ -39,38 +34,9 @@ pub struct Shown {
     pub said: Said,
 }
 
-// The tree after the log; its extents stand in order, `room.used` rows. What replay answered is handed on as it is: the records
-// are copied no more than they must be.
-fn replay_log(
-    g: Geometry,
-    tags: &[u8],
-    paths: &[u64],
-    contents: &[u8],
-    p: Plan,
-    extents: &mut [[u32; 4]],
-) -> Replayed
-    requires { ⌜ Ready g (lent (now tags) (now paths) (now contents)) p × (1024 ≤ length (now extents)) ⌝ }
-    ensures { λ r. ⌜ answer r (now (extents .exit)) ≡ theReplay (logOf g (replayed g (imageOf g (lent (now (tags .entry)) (now (paths .entry)) (now (contents .entry)))))) ⌝ }
-    ensures { λ r. ⌜ Told r (now (extents .exit)) ⌝ }
-{
-    let mut spans = [[0u32; 3]; 256];
-    let mut rows = [[0u32; 4]; 4096];
-    let r = replay::replay(g, tags, paths, contents, p, &mut spans, &mut rows, extents);
-    let said = r.said;
-    match said {
-        Said::Refused(_) => r,
-        Said::Whole => {
-            let slots = r.tree.slots;
-            let n = r.tree.count;
-            runs::gathered(&spans, &rows, &slots, n, extents);
-            return r;
-        }
-    }
-}
-
-// Nothing is shown.
-fn refused(r: Refusal) -> Shown
-    ensures { λ x. ⌜ Silent x × (x .said ≡ Refused r) ⌝ }
+// Places for the records.
+fn blank() -> [Record; 256]
+    ensures { λ r. ⌜ length r ≡ 256 ⌝ }
 {
     let none = Place { at: 0, len: 0 };
     let empty = Record {
@@ -85,12 +51,20 @@ fn refused(r: Refusal) -> Shown
         gid: none,
         muid: none,
     };
+    [empty; 256]
+}
+
+// Nothing is shown.
+fn refused(r: Refusal) -> Shown
+    ensures { λ x. ⌜ Silent x × (x .said ≡ Refused r) ⌝ }
+{
+    let records = blank();
     let erase = Erase {
         blocks: [0; 1024],
         count: 0,
     };
     Shown {
-        records: [empty; 256],
+        records,
         files: 0,
         extents: 0,
         used: [0; 1024],
@@ -102,37 +76,8 @@ fn refused(r: Refusal) -> Shown
     }
 }
 
-// What is shown of a tree whose extents' data is there.
-fn whole(
-    g: Geometry,
-    tags: &[u8],
-    paths: &[u64],
-    contents: &[u8],
-    p: Plan,
-    r: Replayed,
-    xs: &[[u32; 4]],
-) -> Shown
-    requires { ⌜ Ready g (lent (now tags) (now paths) (now contents)) p × Kept (r .tree) × (r .room .used ≡ length (now xs)) × (length (now xs) ≤ 1024) × Lines (now xs) ⌝ }
-    ensures { λ x. ⌜ (x .said ≡ Whole) × (x .extents ≡ r .room .used) × (mounted x (now (xs .entry)) ≡ theShown g (imageOf g (lent (now (tags .entry)) (now (paths .entry)) (now (contents .entry)))) (treeOf r (now (xs .entry)))) × Sizes Whole g (lent (now (tags .entry)) (now (paths .entry)) (now (contents .entry))) x (now (xs .entry)) ⌝ }
-{
-    let used = used::used_bits(g, tags, paths, xs);
-    let erase = used::erase_list(tags, paths, p, &used);
-    let insertion = log::insertion::insertion(g, tags, paths, contents, p);
-    let records = table::in_order(r.tree);
-    Shown {
-        records,
-        files: r.tree.count,
-        extents: r.room.used,
-        used,
-        erase,
-        insertion,
-        applied: r.applied,
-        ignored: r.ignored,
-        said: Said::Whole,
-    }
-}
-
-// After the labels.
+// After the labels. What replay answered is large: it stays here, and what is called takes slices and numbers of it. The records are
+// taken out of their slots, by ascending path.
 fn planned(
     g: Geometry,
     tags: &[u8],
@@ -145,22 +90,41 @@ fn planned(
     ensures { λ r. ⌜ showing r (now (extents .exit)) ≡ later g (lent (now (tags .entry)) (now (paths .entry)) (now (contents .entry))) ⌝ }
     ensures { λ r. ⌜ Sized g (lent (now (tags .entry)) (now (paths .entry)) (now (contents .entry))) r (now (extents .exit)) ⌝ }
 {
-    let r = replay_log(g, tags, paths, contents, p, extents);
+    let mut spans = [[0u32; 3]; 256];
+    let mut rows = [[0u32; 4]; 4096];
+    let r = replay::replay(g, tags, paths, contents, p, &mut spans, &mut rows, extents);
     let said = r.said;
-    match said {
-        Said::Refused(x) => refused(x),
-        Said::Whole => {
-            let n = r.room.used;
-            let xs = &extents[0..n];
-            match used::absent(g, tags, paths, xs) {
-                Missing::Path(q) => {
-                    return refused(Refusal::Data(q));
-                }
-                Missing::Nothing => {
-                    return whole(g, tags, paths, contents, p, r, xs);
-                }
-            }
-        }
+    if let Said::Refused(x) = said {
+        return refused(x);
+    }
+    let t = r.tree;
+    let count = t.count;
+    runs::gathered(&spans, &rows, &t.slots, count, extents);
+    let n = r.room.used;
+    let xs = &extents[0..n];
+    if let Missing::Path(q) = used::absent(g, tags, paths, xs) {
+        return refused(Refusal::Data(q));
+    }
+    let used = used::used_bits(g, tags, paths, xs);
+    let erase = used::erase_list(tags, paths, p, &used);
+    let insertion = log::insertion::insertion(g, tags, paths, contents, p);
+    let mut records = blank();
+    let mut k: usize = 0;
+    while k < count {
+        let s = t.slots[k] as usize;
+        records[k] = t.records[s];
+        k += 1;
+    }
+    Shown {
+        records,
+        files: count,
+        extents: n,
+        used,
+        erase,
+        insertion,
+        applied: r.applied,
+        ignored: r.ignored,
+        said: Said::Whole,
     }
 }
 

@@ -2,7 +2,7 @@
 -- Assumes nothing.
 use mathlib.Core.Path.{refl}
 use native.Mathlib.Omega.{arith}
-use Rattle.answer.proofs.Laws.{few-shown, cored, cored-other}
+use Rattle.answer.proofs.Laws.{few-shown, cored}
 use borrow.Author.Needs.{needs}
 use Rattle.answer.proofs.show_all.Statement.{statement}
 use Rattle.answer.proofs.show_all.Tie as tie
@@ -12,7 +12,6 @@ show-all-spec =
     tie.close
     (tie.spec
     (λ c κs. search needs)
-    (λ c. cored-other _ _ _ (c .refused .result) (λ h. omega (arith, h)) (c .refused .ensures))
     (λ c. search needs)
     (λ c κs. search needs)
     (λ c. search needs)
@@ -23,7 +22,8 @@ show-all-spec =
     (λ c κs. search needs)
     (λ c. let s = c .before .before .before .before .before .before .before .before .show in
     let x = c .before .before .before .before .before .extents-of in
-    cored _ _ (s .result) (s .last .1 .1 .1 .1 .0) (x .result) (x .ensures) _ _ (omega arith)
+    let w = c .before .before .before .before .before .before .before .before .before .before .within in
+    cored _ _ _ _ (w .ensures) (s .result) (s .last .1 .1 .1 .1 .0) (s .ensures .0) (s .ensures .1) (x .result) (x .ensures) _
     (record {
       n = omega arith;
       records = omega arith;
@@ -36,5 +36,4 @@ show-all-spec =
       erase = refl;
       insertion = c .before .insertion-at .ensures;
       said = c .ended .ensures;
-    })
-    (s .ensures .0) (s .ensures .1)))
+    })))
