@@ -2,7 +2,6 @@
 -- Assumes nothing.
 use Rattle.change.proofs.Rooms.{slot-there, many-most, cleared-so}
 use native.Mathlib.Omega.{arith}
-use mathlib.Core.Path.{refl}
 use borrow.Author.Needs.{needs}
 use Rattle.change.proofs.room.clear.Statement.{statement}
 use Rattle.change.proofs.room.clear.Tie as tie
@@ -13,6 +12,6 @@ clear-spec =
     (tie.spec
     (λ c κs. slot-there (c .before .pre .0))
     (λ c κs. slot-there (c .before .before .before .pre .0))
-    (λ c. many-most (c .before .before .before .before .before .before .pre .0) (c .before .before .before .before .before .before .pre .1) _ (c .before .before .before .before .many-at .ensures))
+    (λ c. omega (arith, many-most (c .before .before .before .before .before .before .pre .0) (c .before .before .before .before .before .before .pre .1) _ (c .before .before .before .before .many-at .ensures)))
     (λ c. search needs)
-    (λ c. cleared-so (c .before .before .before .before .before .before .pre .0) _ _ _ _ (c .before .before .clear .ensures) refl (c .before .before .before .before .many-at .ensures)))
+    (λ c. cleared-so (c .before .before .before .before .before .before .pre .0) _ _ _ _ (c .before .before .clear .ensures) (omega arith) (c .before .before .before .before .many-at .ensures)))

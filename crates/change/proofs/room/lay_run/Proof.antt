@@ -1,7 +1,6 @@
 -- `change::room::lay_run` meets its contract.
 -- Assumes nothing.
 use Rattle.change.proofs.Rooms.{slot-in, opens-so, sums-so, laid-so}
-use mathlib.Core.Path.{refl}
 use native.Mathlib.Omega.{arith}
 use borrow.Author.Needs.{needs}
 use Rattle.change.proofs.room.lay_run.Statement.{statement}
@@ -20,4 +19,4 @@ lay-run-spec =
     (λ c. search needs)
     (λ c. search needs)
     (λ c. search needs)
-    (λ c. let s = c .before .before .before .before .before .before .before .before .before .before .before .before .before .before .before .before .before in laid-so (s .pre .2) (s .pre .4) (c .before .before .before .before .before .before .before .before .before .before .before .before .before .make-room .ensures) _ _ _ _ _ (c .before .before .before .before .before .lay-at .ensures .0) (c .before .before .before .before .before .lay-at .ensures .1) refl (c .before .before .before .before .before .before .before .before .many-at .ensures) (c .before .many-at2 .ensures)))
+    (λ c. let s = c .before .before .before .before .before .before .before .before .before .before .before .before .before .before .before .before .before in laid-so (s .pre .2) (s .pre .4) (c .before .before .before .before .before .before .before .before .before .before .before .before .before .make-room .ensures) _ _ _ _ _ (c .before .before .before .before .before .lay-at .ensures .0) (c .before .before .before .before .before .lay-at .ensures .1) (omega arith) (c .before .before .before .before .before .before .before .before .many-at .ensures) (c .before .many-at2 .ensures)))
