@@ -40,14 +40,15 @@ def respelled():
     for path in texts((".antt",)):
         if os.path.basename(path) not in OF_A_FUNCTION:
             declared.update(DECLARED.findall(read(path)))
+            declared.update(re.findall(rf"^ *(?:pub )?ruleset ({WORD}) = ", read(path), re.M))
     old = {n for n in declared if not n[0].isupper() and not n.startswith("-")}
     meets = collections.defaultdict(list)
     for n in sorted(old):
         meets[snake(n)].append(n)
     table = {}
     for new, names in meets.items():
-        # the definition, in camel case, takes the name
-        names.sort(key=lambda n: (not re.search("[a-z0-9][A-Z]", n), n))
+        # the definition, in camel case or without a dash, takes the name
+        names.sort(key=lambda n: (not re.search("[a-z0-9][A-Z]", n), "-" in n, n))
         for i, n in enumerate(names):
             table[n] = new + "_lem" * i
     for alias in set(re.findall(r"as (the[A-Z]\w*)", "".join(map(read, texts((".rt", ".antt")))))):

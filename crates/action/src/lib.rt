@@ -1,4 +1,6 @@
 // A step of a settle or a reclaim, in numbers: as a host takes it from a list, and gives it back to be done.
+#![tactic(auto)]
+
 ghost use Rattle.std.specs.Prelude.{◌≡◌, map, take};
 ghost use Rattle.reclaim.specs.Reclaimed.{steps_in, Listing};
 ghost use Rattle.action.specs.Action.{action_of, step_of};
@@ -8,7 +10,7 @@ use reclaim::Steps;
 
 /// What a step of its kind does not have is 0.
 #[repr(C)]
-#[derive(Drop)]
+#[derive(Clone, Copy)]
 pub struct Action {
     pub kind: u32,
     /// The tag of a label write.

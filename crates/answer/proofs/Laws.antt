@@ -18,8 +18,8 @@ use Rattle.meaning.specs.declared.Refusal.{Refusal}
 use Rattle.meaning.specs.declared.Refusal.TheVariants as refused
 use Rattle.meaning.specs.Answer as meant
 use Rattle.meaning.specs.Answer.{no, number_of}
-use Rattle.log.specs.declared.insertion.Point.{Point}
-use Rattle.log.specs.declared.insertion.Point.TheVariants.{At, Nowhere}
+use Rattle.flash_log.specs.declared.insertion.Point.{Point}
+use Rattle.flash_log.specs.declared.insertion.Point.TheVariants.{At, Nowhere}
 use Rattle.meaning.specs.Flash.{Lent, image_of, good_size, good_geometry, fits}
 use Rattle.meaning.specs.Mount as meaning
 use Rattle.meaning.specs.Mount.{mount_of}

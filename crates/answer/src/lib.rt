@@ -1,12 +1,14 @@
 // What a mount answers, by value and in numbers, as a host takes it: all that is shown, with the records beside it. Nothing that is lent
 // is changed here.
+#![tactic(auto)]
+
 ghost use Rattle.std.specs.Prelude.{◌≡◌, ◌≤◌, map, length, take};
 ghost use Rattle.plan.specs.Select.{lent};
 ghost use Rattle.extent.specs.Rows.{extent_of};
 ghost use Rattle.shown.specs.Shown.{place_of};
 ghost use Rattle.answer.specs.Mounted.{insertion_of, outcome_of, Cored, Housed};
 
-use log::insertion::Point;
+use flash_log::insertion::Point;
 use meaning::{Extent, Geometry, Record};
 use outcome::Outcome;
 use replay::Said;
@@ -14,7 +16,7 @@ use used::Erase;
 
 /// The insertion point: its address, where there is one.
 #[repr(C)]
-#[derive(Drop)]
+#[derive(Clone, Copy)]
 pub struct Insertion {
     /// 0 or 1.
     pub count: usize,

@@ -1,13 +1,13 @@
 -- Laws of the choices.
-use mathlib.Core.Path.{◌≡◌, refl, sym, ◌∙◌, subst}
+use mathlib.Core.Path.{◌≡◌, refl, sym, subst}
 use mathlib.Core.Bool.{Bool, true, false, not}
 use mathlib.Core.Option.{Option, none, some}
 use Prim.Native.Nat.{ℕ, ◌≤◌, ◌<◌}
-use lib.Dec.{T, eqb, ltb, eqb→eq}
+use lib.Dec.{T, eqb, ltb}
 use borrow.Author.Tests.{lt-ltb, le-ltb, eq-eqb, ne_eqb, ltb-true, ltb-false, eqb-true, eqb-false}
-use Rattle.base.specs.Choice.{if_true, if_less, if_eq, bind, on_some, is_some_lem, test, or_else, provided}
+use Rattle.base.specs.Choice.{if_true, if_less, if_eq, bind, on_some, is_some, test, or_else, provided}
 use Rattle.base.specs.Member.{On}
-use Rattle.base.proofs.Tests.{T-yes, zero_one}
+use Rattle.base.proofs.Tests.{zero_one}
 
 -- ---- by what the test says
 
@@ -77,8 +77,8 @@ pub test_none : {A : Type 0} (q : A → Bool) (o : Option A) → o ≡ none → 
 unfolding test
 test_none q o e t = subst (λ (y : Option _). T (test q y)) e t
 
-pub none_of : {A : Type 0} (o : Option A) → is_some_lem o ≡ false → o ≡ none
-unfolding is_some_lem
+pub none_of : {A : Type 0} (o : Option A) → is_some o ≡ false → o ≡ none
+unfolding is_some
 none_of none t = refl
 none_of (some x) t = absurd (subst (λ (b : Bool). T (not b)) (sym t) tt)
 

@@ -1,7 +1,7 @@
 -- Laws of statements about the elements of a list.
 use mathlib.Core.Path.{◌≡◌, refl, sym, ap, subst, ◌∙◌}
 use mathlib.Core.Logic.{◌⊎◌, inl, inr, ⊎_elim}
-use mathlib.Core.Bool.{Bool, ◌||◌}
+use mathlib.Core.Bool.{Bool}
 use mathlib.Core.List.{List, [], ◌∷◌, ◌++◌, map, map-append}
 use Prim.Native.Nat.{ℕ, ◌+◌, ◌<◌}
 use native.Mathlib.Numerals.{add-one}
@@ -10,7 +10,7 @@ use lib.Seq.{take-suc, take-suc-set}
 use lib.Dec.{T}
 use Rattle.base.specs.Scan.{any_of}
 use Rattle.base.specs.Member.{All, In}
-use Rattle.base.proofs.Tests.{or_l, or_r, eq_or}
+use Rattle.base.proofs.Tests.{or_l, or_r}
 
 pub all_map : {A : Type 0} (P Q : A → Type 0) (xs : List A) → ((x : A) → P x → Q x) → All P xs → All Q xs
 all_map P Q [] f p = tt

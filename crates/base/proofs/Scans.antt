@@ -1,14 +1,14 @@
 -- Laws of the scans.
 use mathlib.Core.Path.{◌≡◌, refl, sym, ap₂, subst}
 use mathlib.Core.Logic.{◌⊎◌, inl, inr, ⊎_elim}
-use mathlib.Core.Bool.{Bool, true, false, cond, ◌||◌}
+use mathlib.Core.Bool.{Bool, true, false, cond}
 use mathlib.Core.Option.{Option, none, some}
 use mathlib.Core.List.{List, [], ◌∷◌, ◌++◌}
 use Prim.Native.Nat.{ℕ, zero, suc, ◌<◌}
 use native.Mathlib.Nat.{not-suc-le-zero, le_of_suc-le-suc, eq-or-lt_of_le, le_refl, le_step}
 use lib.Dec.{T}
-use Rattle.base.specs.Choice.{is_some_lem}
-use Rattle.base.specs.Scan.{any, first, places, any_of}
+use Rattle.base.specs.Choice.{is_some}
+use Rattle.base.specs.Scan.{any, first, places}
 use Rattle.base.specs.Member.{All, In}
 use Rattle.base.proofs.Tests.{T-yes, is_false, not_both, T-ext, or_l, or_r, or_cases}
 use Rattle.base.proofs.Lists.{all_map, all_append, in_left, in_right, in_split}
@@ -83,11 +83,11 @@ first_cong (suc n) p q e =
     ap₂ (λ (o : Option ℕ) (b : Bool). elim o as (λ x. Option ℕ) [ some i ↦ some i | none ↦ cond b (some n) none ])
     (first_cong n p q (λ i h. e i (le_step h))) (e n (le_refl (suc n)))
 
-pub first_has : (n : ℕ) (p : ℕ → Bool) (i : ℕ) → i < n → T (p i) → T (is_some_lem (first n p))
-unfolding is_some_lem
+pub first_has : (n : ℕ) (p : ℕ → Bool) (i : ℕ) → i < n → T (p i) → T (is_some (first n p))
+unfolding is_some
 first_has n p i h t = go (first n p) refl
   where
-    go : (o : Option ℕ) → first n p ≡ o → T (is_some_lem o)
+    go : (o : Option ℕ) → first n p ≡ o → T (is_some o)
     go none e = absurd (first_none n p e i h t)
     go (some k) e = tt
 

@@ -2,7 +2,6 @@
 -- the way by what a need is handed, where the code tests what the definition tests. Arguments written `_` come from the goal.
 use mathlib.Core.Path.{◌≡◌, refl, sym, ◌∙◌}
 use mathlib.Core.Bool.{Bool, true, false}
-use mathlib.Core.Option.{Option, none, some}
 use Prim.Native.Nat.{ℕ, ◌≤◌, ◌<◌}
 use borrow.Author.Tests.{lt-ltb, le-ltb, eq-eqb, ne_eqb, not-true, not-false}
 use Rattle.base.specs.Choice.{if_true, if_less, if_eq, bind}

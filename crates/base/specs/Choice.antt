@@ -25,9 +25,9 @@ on_some none z k = z
 on_some (some x) z k = k x
 
 -- a value is there
-unfoldable pub is_some_lem : {A : Type 0} → Option A → Bool
-is_some_lem none = false
-is_some_lem (some x) = true
+unfoldable pub is_some : {A : Type 0} → Option A → Bool
+is_some none = false
+is_some (some x) = true
 
 -- a value is there and passes
 unfoldable pub test : {A : Type 0} → (A → Bool) → Option A → Bool

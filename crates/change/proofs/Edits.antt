@@ -11,7 +11,7 @@ use Rattle.meaning.specs.declared.Verdict.{Verdict}
 use Rattle.meaning.specs.Replay.{applies, created, truncated, written, restated, stamp}
 use Rattle.base.specs.Choice.{if_true}
 use Rattle.base.proofs.Ways.{yes=, no=}
-use Rattle.log.specs.Cursor.{Ranged}
+use Rattle.flash_log.specs.Cursor.{Ranged}
 use Rattle.tree.specs.Judge.{judge_truncate, judge_write, judge_wstat}
 use Rattle.change.specs.declared.edit.Edit.{Edit}
 use Rattle.change.specs.declared.edit.Edit.TheVariants.{Ignored, Written, Truncated, Restated, Removed}

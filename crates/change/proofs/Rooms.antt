@@ -1,17 +1,16 @@
 -- The functions of src/room.rt.
-use Prim.Native.Nat.{ℕ, ◌+◌, ◌-◌, ◌≤◌, ◌^◌, ◌<◌}
-use mathlib.Core.Path.{◌≡◌, refl, sym, ap, subst, ◌∙◌}
+use Prim.Native.Nat.{ℕ, ◌+◌, ◌-◌, ◌≤◌, ◌<◌}
+use mathlib.Core.Path.{◌≡◌, refl, sym, ap, ◌∙◌}
 use mathlib.Core.List.{List}
 use native.Mathlib.Omega.{arith}
 use lib.ListN.{length, set}
-use Rattle.base.specs.Member.{In}
 use Rattle.meaning.specs.declared.Extent.{Extent}
 use Rattle.meaning.specs.Replay.{lay, others}
 use Rattle.extent.specs.Rows.{row_of, Fit, Sound}
-use Rattle.runs.specs.Runs.{many_of, room_of, span_at, with, gather, Parts, Placed, Owned, Open, Roomed, spans_laid, rows_laid}
+use Rattle.runs.specs.Runs.{many_of, span_at, with, gather, Owned, Open, Roomed, spans_laid, rows_laid}
 use Rattle.runs.proofs.Laws.{kept_gather, kept_owned, open_at, gather_lay, lay_parts, lay_owned, lay_count, gather_clear, clear_placed, clear_owned, clear_count}
 use Rattle.change.specs.declared.room.Room.{Room}
-use Rattle.change.specs.Room.{Stands, Known, Laid, Turns, Some}
+use Rattle.change.specs.Room.{Stands, Known, Turns, Some}
 
 -- ---- a run
 

@@ -1,31 +1,24 @@
 -- One message told to a tree: what its edit says of the verdict and of the change.
-use Prim.Native.Nat.{ℕ, ◌+◌, ◌<◌, ◌≤◌}
-use mathlib.Core.Path.{◌≡◌, refl, sym, ap, ap₂, subst, ◌∙◌}
-use mathlib.Core.Bool.{Bool, true, false, ◌||◌}
+use Prim.Native.Nat.{ℕ, ◌<◌, ◌≤◌}
+use mathlib.Core.Path.{◌≡◌, refl, sym, ap, subst, ◌∙◌}
+use mathlib.Core.Bool.{Bool, true, false}
 use mathlib.Core.Option.{Option, none, some}
 use mathlib.Core.List.{List, [], ◌∷◌}
 use native.Mathlib.Omega.{arith}
 use lib.ListN.{length}
-use lib.Dec.{ltb}
 use mathlib.Core.Logic.{◌≢◌, ⊎_elim}
-use borrow.Author.Tests.{lt-ltb, le-ltb}
 use Rattle.base.proofs.Tests.{eq_or, zero_one}
 use Rattle.base.proofs.Choices.{eq_yes, eq_no}
-use Rattle.base.specs.Choice.{if_true, if_eq, on_some, is_some_lem}
+use Rattle.base.specs.Choice.{if_true, if_eq, on_some, is_some}
 use Rattle.meaning.specs.declared.Extent.{Extent}
 use Rattle.meaning.specs.declared.Message.{Message}
 use Rattle.meaning.specs.declared.Message.TheVariants.{Create, Remove, Truncate, Write, Wstat}
 use Rattle.meaning.specs.declared.Record.{Record}
-use Rattle.meaning.specs.declared.Refusal.{Refusal}
-use Rattle.meaning.specs.declared.Refusal.TheVariants as refused
-use Rattle.meaning.specs.declared.Verdict.{Verdict}
 use Rattle.meaning.specs.declared.Verdict.TheVariants.{Applied, NoParent, ParentNoDirectory, PathTaken, TheRoot, NotEmpty}
-use Rattle.meaning.specs.Answer.{Answer, ok, no, and_then, unless, address}
-use Rattle.meaning.specs.Log.{Entry, Log, empty, stopped, entry}
-use Rattle.meaning.specs.Replay as meaning
-use Rattle.meaning.specs.Replay.{root, created, truncated, written, restated, stamp, sized, is_dir, look, alter, insert, delete, is_empty, home_of, lay, others, judge, applies, own_after, parent_after, records_after, extents_after, changed, full, within_limits, passed_over, step, told, replay}
+use Rattle.meaning.specs.Log.{empty}
+use Rattle.meaning.specs.Replay.{root, created, truncated, written, restated, stamp, sized, is_dir, look, alter, insert, delete, is_empty, home_of, lay, others, judge, applies, own_after, parent_after, records_after, extents_after}
 use Rattle.extent.specs.Rows.{Fit}
-use Rattle.log.specs.Cursor.{Ranged}
+use Rattle.flash_log.specs.Cursor.{Ranged}
 use Rattle.tree.specs.Judge.{judge_create, judge_remove}
 use Rattle.tree.proofs.Judged as judged
 use Rattle.tree.proofs.Judged.{not_emptied, created_there, created_absent, removed_absent, truncated_there, truncated_absent, written_there, written_absent, restated_there, restated_absent}
@@ -263,8 +256,8 @@ not_made : (q : Record) → Nothing ≡ File q → ⊥
 not_made q e = zero_one (ap born (sym e))
 
 -- a create of a path that is free, under a directory or not
-under : (o : Option Record) (d : Record) → o ≡ none → is_dir d ≡ true → applies (judge_create d (is_some_lem o)) ≡ true
-unfolding judge_create applies is_some_lem if_true
+under : (o : Option Record) (d : Record) → o ≡ none → is_dir d ≡ true → applies (judge_create d (is_some o)) ≡ true
+unfolding judge_create applies is_some if_true
 under o d e h = rw (e, h)
 
 not_under : (b : Bool) (d : Record) → is_dir d ≡ false → applies (judge_create d b) ≡ false
@@ -284,7 +277,7 @@ module _ (fs : List Record) (q d : Record) where
   pub no_directory : (m : Message) → newborn m ≡ File q → look q.parent fs ≡ some d → is_dir d ≡ false → applies (judge m fs) ≡ false
   unfolding newborn created
   no_directory (Create parent perm path mtime cvers name uid gid) e l h =
-      ap applies (created_there fs parent perm path mtime cvers name uid gid d (ap (λ (r : Record). look r.parent fs) (ap file_of e) ∙ l)) ∙ not_under (is_some_lem (look path fs)) d h
+      ap applies (created_there fs parent perm path mtime cvers name uid gid d (ap (λ (r : Record). look r.parent fs) (ap file_of e) ∙ l)) ∙ not_under (is_some (look path fs)) d h
   no_directory (Remove path muid mtime) e l h = absurd (not_made q e)
   no_directory (Truncate path mtime cvers muid) e l h = absurd (not_made q e)
   no_directory (Write run mtime muid cvers) e l h = absurd (not_made q e)

@@ -1,6 +1,6 @@
 // What a message would do: the path that it speaks of, and what it makes of the record there.
 ghost use Rattle.std.specs.Prelude.{◌≡◌, ◌+◌, ◌^◌, ◌<◌};
-ghost use Rattle.log.specs.Cursor.{Ranged};
+ghost use Rattle.flash_log.specs.Cursor.{Ranged};
 ghost use Rattle.meaning.specs.Replay.{applies, restated, truncated, written};
 ghost use Rattle.tree.specs.Judge.{judge_truncate, judge_write, judge_wstat};
 ghost use Rattle.change.specs.declared.edit.Edit.TheVariants.{Restated, Truncated, Written};
@@ -9,7 +9,7 @@ ghost use Rattle.change.specs.Edit.{subject, edit_if, edit_of, newborn, stamped_
 use meaning::{Extent, Message, Place, Record};
 
 /// What a message does to the file that bears its path: the record that it makes of it, and what becomes of its extents.
-#[derive(Drop)]
+#[derive(Clone, Copy)]
 pub enum Edit {
     Ignored,
     /// A run is laid over them.
@@ -23,7 +23,7 @@ pub enum Edit {
 }
 
 /// The record that a message makes, if it makes one.
-#[derive(Drop)]
+#[derive(Clone, Copy)]
 pub enum Made {
     File(Record),
     Nothing,

@@ -1,5 +1,7 @@
 // What a message makes of the files: of the record that bears its path, and of the extents. The verdict on a message is in the
 // crate tree, the limits are replay's.
+#![tactic(auto)]
+
 mod edit;
 mod room;
 

@@ -8,7 +8,7 @@ ghost use Rattle.change.specs.Room.{Stands, Some, Turns};
 use meaning::Extent;
 
 /// Where free rows begin, and how many extents there are.
-#[derive(Drop)]
+#[derive(Clone, Copy)]
 pub struct Room {
     pub bump: usize,
     pub used: usize,

@@ -1,4 +1,6 @@
 // Lent slices copied, so that a service can be tried on a copy of an image. What has no room is left out.
+#![tactic(auto)]
+
 ghost use Rattle.std.specs.Prelude.{◌≡◌};
 ghost use Rattle.step.specs.Done.{written};
 

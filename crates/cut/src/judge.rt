@@ -5,7 +5,7 @@ use file::Outcome;
 use meaning::{Geometry, Record};
 
 /// The files of the image before the first step.
-#[derive(Drop)]
+#[derive(Clone, Copy)]
 pub struct Before {
     pub records: [Record; 256],
     pub files: usize,

@@ -1,5 +1,7 @@
 // A list of steps, cut everywhere: the power goes between any two steps and within each step, on a copy of the image, and what is left
 // is compared with what the image showed before.
+#![tactic(auto)]
+
 mod judge;
 mod junk;
 mod lists;
@@ -13,7 +15,7 @@ use meaning::{Geometry, Step};
 use reclaim::Steps;
 
 // How many cut states were tried, and how many of them showed the same.
-#[derive(Drop)]
+#[derive(Clone, Copy)]
 pub struct Tried {
     pub cuts: u64,
     pub same: u64,

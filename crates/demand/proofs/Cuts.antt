@@ -9,9 +9,7 @@ use lib.Dec.{T, ltb→lt}
 use Rattle.meaning.specs.declared.Geometry.{Geometry}
 use Rattle.meaning.specs.declared.Step.{Step}
 use Rattle.meaning.specs.declared.Step.TheVariants.{Erase, PageWrite, LabelWrite}
-use Rattle.meaning.specs.declared.Tag.{Tag}
-use Rattle.meaning.specs.declared.Tag.TheVariants.{Free, Boot, Log, Data, Unknown}
-use Rattle.base.specs.Choice.{if_eq, if_true}
+use Rattle.meaning.specs.declared.Tag.TheVariants.{Free}
 use Rattle.base.specs.Member.{All}
 use Rattle.base.proofs.Tests.{and_i, eq_or, tests}
 use Rattle.base.proofs.Lists.{all_map}

@@ -23,7 +23,7 @@ use Rattle.meaning.specs.declared.Step.TheVariants.{Erase, PageWrite, LabelWrite
 use Rattle.meaning.specs.declared.Tag.{Tag}
 use Rattle.meaning.specs.declared.Tag.TheVariants.{Free, Boot, Log, Data}
 use Rattle.meaning.specs.Answer.{Answer, ok, and_then, block}
-use Rattle.meaning.specs.Flash.{Lent, Image, Labels, image_of, labels_of, block_size, page_of, blank, tag_of, byte_of, r_of, copy_of, path_of, successor}
+use Rattle.meaning.specs.Flash.{Lent, Image, Labels, image_of, labels_of, block_size, page_of, blank, tag_of, byte_of, r_of, copy_of, successor}
 use Rattle.meaning.specs.Labels.{clash, newer, older, find, find_data}
 use Rattle.meaning.specs.Mount.{Mounted, mount_of, used, used_pages, to_erase}
 use Rattle.meaning.specs.Services.{settle_steps, is_free, free_blocks, lowest_free, writable, cleared, renewed_path, reclaim_steps, reclaim_on, reclaim, relabel, erased, done, done_all, do_steps, inside}

@@ -6,7 +6,7 @@ use mathlib.Core.Option.{Option, none, some}
 use mathlib.Core.List.{List}
 use native.Mathlib.Omega.{arith}
 use native.Mathlib.Nat.{mod-lt}
-use Rattle.base.specs.Choice.{is_some_lem, on_some, or_zero}
+use Rattle.base.specs.Choice.{is_some, on_some, or_zero}
 use Rattle.base.proofs.Choices.{less_yes, less_no}
 use Rattle.meaning.specs.declared.Block.{Block}
 use Rattle.meaning.specs.declared.Extent.{Extent}
@@ -16,7 +16,7 @@ use Rattle.label.specs.Search.{found}
 use Rattle.label.specs.declared.Found.{Found}
 use Rattle.label.specs.declared.Found.TheVariants as finds
 use Rattle.label.proofs.Answered.{nothing_none, at_some}
-use Rattle.log.proofs.Sizes.{Sizes, sizes, block_size_low, block_size_high}
+use Rattle.flash_log.proofs.Sizes.{Sizes, sizes, block_size_low, block_size_high}
 use Rattle.read.specs.Pieces.{bare, place_at}
 use Rattle.extent.specs.Rows.{extent_of}
 use Rattle.direct.specs.Begins.{begin, begin_of, place_of, stands}
@@ -77,11 +77,11 @@ module _ (g : Geometry) (m : Labels) (r : List ℕ) {x : Begin} (f : x ≡ begin
   no_begin (some j) e h = let z : Nowhere ≡ At j = sym h ∙ e in cc
 
   pub is_whole : {i : ℕ} → x ≡ At i → true ≡ stands g m r
-  unfolding stands is_some_lem
+  unfolding stands is_some
   is_whole h = rw (at_begin _ f h)
 
   pub is_torn : x ≡ Nowhere → false ≡ stands g m r
-  unfolding stands is_some_lem
+  unfolding stands is_some
   is_torn h = rw (no_begin _ f h)
 
   pub place_is : {i : ℕ} → x ≡ At i → i ≡ place_of g m r

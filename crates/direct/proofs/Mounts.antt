@@ -1,5 +1,5 @@
 -- On the rows of a mount `begins` refuses nothing, and a direct read is the read of document 01.
-use Prim.Native.Nat.{ℕ, ◌+◌, ◌-◌, ◌/◌, ◌%◌, ◌^◌, ◌≤◌, ◌<◌}
+use Prim.Native.Nat.{ℕ, ◌+◌, ◌/◌, ◌%◌, ◌^◌, ◌≤◌, ◌<◌}
 use mathlib.Core.Path.{◌≡◌, refl, sym, ap, subst, ◌∙◌}
 use mathlib.Core.Logic.{⊎_elim}
 use mathlib.Core.Bool.{Bool, true, false, not}
@@ -8,7 +8,7 @@ use mathlib.Core.List.{List, [], ◌∷◌, map}
 use native.Mathlib.Omega.{arith}
 use lib.Dec.{T, leb, leb→le}
 use lib.ListN.{length, get_or}
-use Rattle.base.specs.Choice.{if_true, if_less, is_some_lem, on_some, or_else, provided}
+use Rattle.base.specs.Choice.{if_true, if_less, is_some, on_some, or_else, provided}
 use Rattle.base.specs.Member.{All, In}
 use Rattle.base.specs.Scan.{all_of}
 use Rattle.base.proofs.Choices.{less_yes, less_no}
@@ -26,7 +26,7 @@ use Rattle.meaning.specs.Mount.{Mounted, absent, in_data, lacks, mount_of}
 use Rattle.meaning.specs.Replay.{spot, start, end}
 use Rattle.meaning.specs.Services.{buffer_after, read}
 use Rattle.extent.specs.Rows.{extent_of, Four, Lined, Within}
-use Rattle.log.proofs.Sizes.{sizes}
+use Rattle.flash_log.proofs.Sizes.{sizes}
 use Rattle.plan.specs.Select.{chosen, judged, selected}
 use Rattle.plan.specs.declared.Selected.TheVariants.{Planned}
 use Rattle.replayed.specs.Shape.{Before, Bounded, Shape, Sorted}
@@ -36,7 +36,7 @@ use Rattle.read.specs.Pieces.{bare, place_at}
 use Rattle.read.proofs.Address.{bare_low, bare_high}
 use Rattle.direct.specs.Begins.{begin_of, begins_of, begun, places_after, stands}
 use Rattle.direct.specs.Direct.{answered, buffer_with}
-use Rattle.direct.proofs.Same.{begun_placed, is_some, mounts_fit, same_answer, same_buffer}
+use Rattle.direct.proofs.Same.{begun_placed, is_some_lem, mounts_fit, same_answer, same_buffer}
 use Rattle.direct.proofs.Stand.{Held, held_ends, replay_held, some_is}
 
 -- ---- a live extent's block is there
@@ -51,24 +51,24 @@ lacks_none g m (e ∷ es) h = go (lacks g m e) (λ k. lacks_none g m es k) refl 
     go false ih q z = (λ t. subst T q t, ih z)
 
 module _ (g : Geometry) (m : Labels) (e : Extent) (h : Held g m e) (n : T (lacks g m e) → ⊥) where
-  there : T (is_some_lem (place_at g m e.address))
+  there : T (is_some (place_at g m e.address))
   unfolding place_at lacks in_data in_log
   there = ⊎_elim
       (λ (u : e.address < 2 ^ 31).
-      subst (λ (o : Option ℕ). T (is_some_lem o)) (sym (less_yes e.address (2 ^ 31) (find_data g.blocks m (bare e.address / block_size g)) _ u
+      subst (λ (o : Option ℕ). T (is_some o)) (sym (less_yes e.address (2 ^ 31) (find_data g.blocks m (bare e.address / block_size g)) _ u
       ∙ ap (λ (k : ℕ). find_data g.blocks m (k / block_size g)) (bare_low e.address u)))
-      (⊎_elim (λ t. t) (λ f. absurd (n (and_i (not (leb (2 ^ 31) e.address)) (not (is_some_lem (find_data g.blocks m (e.address / block_size g))))
+      (⊎_elim (λ t. t) (λ f. absurd (n (and_i (not (leb (2 ^ 31) e.address)) (not (is_some (find_data g.blocks m (e.address / block_size g))))
       (→T_not (leb (2 ^ 31) e.address) (λ t. omega (arith, leb→le (2 ^ 31) e.address t)))
-      (→T_not (is_some_lem (find_data g.blocks m (e.address / block_size g))) f)))) (T-dec (is_some_lem (find_data g.blocks m (e.address / block_size g))))))
+      (→T_not (is_some (find_data g.blocks m (e.address / block_size g))) f)))) (T-dec (is_some (find_data g.blocks m (e.address / block_size g))))))
       (λ (u : 2 ^ 31 ≤ e.address).
-      subst (λ (o : Option ℕ). T (is_some_lem o)) (sym (less_no e.address (2 ^ 31) _ (find_log g.blocks m (bare e.address / block_size g)) u)) (h.kept u))
+      subst (λ (o : Option ℕ). T (is_some o)) (sym (less_no e.address (2 ^ 31) _ (find_log g.blocks m (bare e.address / block_size g)) u)) (h.kept u))
       (lt_or e.address (2 ^ 31))
 
-  stands_whole : T (is_some_lem (begin_of g m e))
+  stands_whole : T (is_some (begin_of g m e))
   unfolding begin_of on_some
   stands_whole =
-      subst (λ (o : Option ℕ). T (is_some_lem (on_some o none (λ b. if_less (block_size g) (bare e.address % block_size g + e.count) none
-      (some (begins g b + bare e.address % block_size g)))))) (sym (is_some (place_at g m e.address) there))
+      subst (λ (o : Option ℕ). T (is_some (on_some o none (λ b. if_less (block_size g) (bare e.address % block_size g + e.count) none
+      (some (begins g b + bare e.address % block_size g)))))) (sym (is_some_lem (place_at g m e.address) there))
       (some_is _ (less_no (block_size g) (bare e.address % block_size g + e.count) none _ h.whole))
 
 rows_stand : (g : Geometry) (m : Labels) (xs : List (List ℕ)) → All (Held g m) (map extent_of xs) → All (λ (e : Extent). T (lacks g m e) → ⊥) (map extent_of xs)

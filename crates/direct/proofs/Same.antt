@@ -10,7 +10,7 @@ use native.Mathlib.Nat.{le_of_suc-le-suc, not-suc-le-zero}
 use lib.Dec.{T}
 use lib.ListN.{length, get_or, take, drop, replicate, length-append, get_or-append}
 use lib.Seq.{drop-drop}
-use Rattle.base.specs.Choice.{if_true, is_some_lem, on_some, or_zero}
+use Rattle.base.specs.Choice.{if_true, is_some, on_some, or_zero}
 use Rattle.base.specs.Member.{In}
 use Rattle.base.specs.Scan.{all_of}
 use Rattle.base.proofs.Choices.{all_less, all_some, all_true, less_yes, less_no}
@@ -28,7 +28,7 @@ use Rattle.meaning.specs.Replay.{spot, start, end, look, replay}
 use Rattle.meaning.specs.Services.{buffer_after, copied, read, readable}
 use Rattle.extent.specs.Rows.{extent_of, runs, Within, Split}
 use Rattle.extent.proofs.Line.{start_end}
-use Rattle.log.proofs.Sizes.{Sizes, sizes, block_in}
+use Rattle.flash_log.proofs.Sizes.{Sizes, sizes, block_in}
 use Rattle.plan.specs.Select.{selected}
 use Rattle.plan.specs.declared.Selected.{Selected}
 use Rattle.plan.specs.declared.Selected.TheVariants.{Planned, Refused}
@@ -150,10 +150,10 @@ all_at p [] i d t h = absurd (not-suc-le-zero h)
 all_at p (x ∷ xs) zero d t h = and_l (p x) (all_of p xs) t
 all_at p (x ∷ xs) (suc i) d t h = all_at p xs i d (and_r (p x) (all_of p xs) t) (le_of_suc-le-suc h)
 
-pub is_some : (o : Option ℕ) → T (is_some_lem o) → o ≡ some (or_zero o)
-unfolding is_some_lem or_zero
-is_some none t = absurd t
-is_some (some i) t = refl
+pub is_some_lem : (o : Option ℕ) → T (is_some o) → o ≡ some (or_zero o)
+unfolding is_some or_zero
+is_some_lem none t = absurd t
+is_some_lem (some i) t = refl
 
 module _ (g : Geometry) (l : Lent) (xs : List (List ℕ)) (before : List ℕ) (bs : List ℕ) (e : begun g l xs (length before) ≡ ok bs) where
   abbrev labels : Labels
@@ -185,7 +185,7 @@ module _ (g : Geometry) (l : Lent) (xs : List (List ℕ)) (before : List ℕ) (b
     omega (arith, ap length after_is, length-append (begins_of g labels xs) (drop (length xs) before), begins_long g labels xs),
     λ j h. subst (Begun g labels (extent_of (get_or xs j []))) (begins_at g labels xs j h refl ∙ sym (get_or-append (begins_of g labels xs) (drop (length xs) before) 0 j
         (omega (arith, begins_long g labels xs))) ∙ ap (λ (ps : List ℕ). get_or ps j 0) (sym after_is))
-        (begun_is g labels (extent_of (get_or xs j [])) _ (is_some _ (all_at (stands g labels) xs j [] begun→.1 h))),
+        (begun_is g labels (extent_of (get_or xs j [])) _ (is_some_lem _ (all_at (stands g labels) xs j [] begun→.1 h))),
   )
 
 -- ---- a file's record among those of a mount

@@ -10,7 +10,7 @@ use native.Mathlib.Nat.{add-mul, div-add-mod', mod-lt, mul_assoc, mul_comm, mul-
 use lib.Arith.{digits_div, digits_mod}
 use lib.Dec.{T, eqb, leb, leb→le, le→leb}
 use lib.ListN.{length, take, drop, length-take}
-use Rattle.base.specs.Choice.{is_some_lem, on_some}
+use Rattle.base.specs.Choice.{is_some, on_some}
 use Rattle.base.specs.Member.{All, In}
 use Rattle.base.proofs.Choices.{all_true, all_less, all_eq, all_bind}
 use Rattle.base.proofs.Lists.{all_map, in_split}
@@ -29,7 +29,7 @@ use Rattle.meaning.specs.Log.{LogBlock, bytes_at, embedded_limit, log_block, log
 use Rattle.meaning.specs.Message.{Page, past, u16, good_data, good_embedded, good_run, in_log, well_formed, create_at, remove_at, truncate_at, write_at, wstat_at, typed, parse}
 use Rattle.meaning.specs.Replay.{Tree, start, end, front, back, others, judge, applies, extents_after, changed, bare, replay}
 use Rattle.extent.proofs.Line.{start_end}
-use Rattle.log.proofs.Sizes.{sizes, block_size_low, block_size_high, page_in}
+use Rattle.flash_log.proofs.Sizes.{sizes, block_size_low, block_size_high, page_in}
 use Rattle.replayed.proofs.Keeps.{Well, log_all, replay_keeps}
 use Rattle.replayed.proofs.Line.{lay_all, others_all}
 use Rattle.survival.proofs.Enough.{numbered}
@@ -38,15 +38,15 @@ use Rattle.survival.proofs.Survive.{Passed}
 use Rattle.read.specs.Pieces as pieces
 use Rattle.read.proofs.Address.{bare_low, bare_high, same_block_lem, same_offset}
 
-pub some_is : (o : Option ℕ) {i : ℕ} → o ≡ some i → T (is_some_lem o)
-unfolding is_some_lem
-some_is o e = subst (λ (c : Option ℕ). T (is_some_lem c)) (sym e) tt
+pub some_is : (o : Option ℕ) {i : ℕ} → o ≡ some i → T (is_some o)
+unfolding is_some
+some_is o e = subst (λ (c : Option ℕ). T (is_some c)) (sym e) tt
 
 -- the run stands whole in a block, of a number that a label may have; a log block is there
 pub record Held (g : Geometry) (m : Labels) (e : Extent) : Type 0 where
   pub whole : pieces.bare e.address % block_size g + e.count ≤ block_size g
   pub small : pieces.bare e.address / block_size g ≤ 4095
-  pub kept : 2 ^ 31 ≤ e.address → T (is_some_lem (find_log g.blocks m (pieces.bare e.address / block_size g)))
+  pub kept : 2 ^ 31 ≤ e.address → T (is_some (find_log g.blocks m (pieces.bare e.address / block_size g)))
 
 module _ (g : Geometry) (l : Lent) (fit : fits g l ≡ true) (m : Labels) where
   low : block_size g ≤ 65536
@@ -98,7 +98,7 @@ module _ (g : Geometry) (l : Lent) (fit : fits g l ≡ true) (m : Labels) where
     back_held = record {
       whole = omega (arith, offset_on, h.whole, start_end x);
       small = omega (arith, block_on, h.small);
-      kept = λ u. subst (λ (k : ℕ). T (is_some_lem (find_log g.blocks m k))) (sym block_on) (h.kept (from_log u));
+      kept = λ u. subst (λ (k : ℕ). T (is_some (find_log g.blocks m k))) (sym block_on) (h.kept (from_log u));
     }
 
   -- ---- messages
@@ -282,7 +282,7 @@ module _ (g : Geometry) (m : Image) where
         record {
           whole = omega (arith, page_in g j page, page_short b.bytes j);
           small = omega (arith, numbers_low passed k t.0 t.1);
-          kept = λ i. subst (λ (c : ℕ). T (is_some_lem (find_log g.blocks m.labels c))) (sym d) (some_is _ t.1);
+          kept = λ i. subst (λ (c : ℕ). T (is_some (find_log g.blocks m.labels c))) (sym d) (some_is _ t.1);
         }
 
     -- "a run that leaves its block" is malformed, and embedded data stands in its message's page

@@ -1,7 +1,7 @@
 -- Where the runs of extents begin in the contents.
 use Rattle.std.specs.Prelude.{ℕ, ◌+◌, ◌%◌, Bool, List, ◌++◌, map, length, drop}
 use Rattle.std.proofs.Math.Option.{Option, none, some}
-use Rattle.base.specs.Choice.{if_true, if_less, is_some_lem, on_some, or_zero}
+use Rattle.base.specs.Choice.{if_true, if_less, is_some, on_some, or_zero}
 use Rattle.base.specs.Scan.{all_of}
 use Rattle.meaning.specs.declared.Extent.{Extent}
 use Rattle.meaning.specs.declared.Geometry.{Geometry}
@@ -28,7 +28,7 @@ begin (some i) = At i
 
 -- a row's run stands whole in a block that is there
 unfoldable pub stands : Geometry → Labels → List ℕ → Bool
-stands g m r = is_some_lem (begin_of g m (extent_of r))
+stands g m r = is_some (begin_of g m (extent_of r))
 
 unfoldable pub place_of : Geometry → Labels → List ℕ → ℕ
 place_of g m r = or_zero (begin_of g m (extent_of r))

@@ -1,5 +1,7 @@
 // Reads on what a mount has answered. A mount costs as much as the log; its rows say where each file's bytes stand. So the host asks
 // once where each run begins in the contents, and reads from there, with no label search.
+#![tactic(auto)]
+
 ghost use Rattle.std.specs.Prelude.{◌≡◌, ◌+◌, ◌-◌, ◌^◌, ◌≤◌, ◌<◌, length, get_or};
 ghost use Rattle.base.specs.Choice.{or_zero};
 ghost use Rattle.base.specs.Scan.{all_of};
@@ -7,7 +9,7 @@ ghost use Rattle.meaning.specs.Flash.{labels_of};
 ghost use Rattle.meaning.specs.Replay.{spot as the_spot};
 ghost use Rattle.plan.specs.Select.{lent};
 ghost use Rattle.extent.specs.Rows.{extent_of};
-ghost use Rattle.log.specs.Cursor.{Ready};
+ghost use Rattle.flash_log.specs.Cursor.{Ready};
 ghost use Rattle.replay.specs.Replay.{answer_by};
 ghost use Rattle.file.specs.File.{answer};
 ghost use Rattle.direct.specs.Begins.{begin as the_begin, begin_of, begins_of, begun, place_of, places_after, stands};
@@ -20,7 +22,7 @@ use plan::Selected;
 use replay::Said;
 
 // Where a run begins in the contents, or that no block has the whole of it.
-#[derive(Drop)]
+#[derive(Clone, Copy)]
 enum Begin {
     At(u32),
     Nowhere,

@@ -22,7 +22,7 @@ use Rattle.text.specs.declared.Field.{Field}
 use Rattle.text.specs.declared.Field.TheVariants.{Read, Bad}
 use Rattle.text.specs.Put.{put}
 use Rattle.text.proofs.Puts.{put_fits, length_put, take_put}
-use Rattle.dump.specs.Lines.{sized, sizes, first_at_lem, label_at, page_at, places, on_first, on_label, on_page}
+use Rattle.dump.specs.Lines.{sized, sizes, first_at, label_at, page_at, places, on_first, on_label, on_page}
 use Rattle.dump.specs.Dump.{label_step, label_lines, page_lines, on_lines, dump_of, bad_line}
 use Rattle.dump.specs.Given.{the_tag, the_path, labels_from, bytes_from, pages_step, pages_from, content_bytes, image_at, on_dump, given, answer, tags_after, paths_after, contents_after}
 use Rattle.dump.specs.declared.First.{First}
@@ -60,8 +60,8 @@ sized_small g n =
     (all_less OnSized 32768 (g.blocks * block_size g) _ _ (λ h. tt) (λ h. record { good = e; bytes = h })))
     (λ e. tt)
 
-first_small : (s : List ℕ) (at : ℕ) → OnSized (first_at_lem s at)
-unfolding first_at_lem
+first_small : (s : List ℕ) (at : ℕ) → OnSized (first_at s at)
+unfolding first_at
 first_small s at =
     on_field_lem (head_at s at 71) _ (λ z i. on_field_lem (number_at s i tab) _ (λ size j. on_field_lem (number_at s j tab) _ (λ pages k.
     on_field_lem (number_at s k newline) _ (λ blocks n. sized_small (sizes size pages blocks) n))))
@@ -106,7 +106,7 @@ module _ (P : Geometry → ℕ → ℕ → Type 0) where
 whole : (s : List ℕ) (first : ℕ) → OnFine (Whole s first) (dump_of s first)
 unfolding dump_of
 whole s first =
-    on_first_lem (Whole s first) (first_at_lem s 0) _ _ _ (λ g labels e.
+    on_first_lem (Whole s first) (first_at s 0) _ _ _ (λ g labels e.
     on_lines_lem (Whole s first) (label_lines s g.blocks labels (first + 1)) _ (λ pages f.
     on_lines_lem (Whole s first) (page_lines s g (places g + 1) pages (first + 1 + g.blocks) 0) _ (λ end h.
     record { small = subst OnSized e (first_small s 0); lines = f })))

@@ -37,7 +37,7 @@ module _ (s : List ℕ) (n at first : ℕ) {r : Lines} where
   label_out zero i line e h p = p ∙ e
   label_out (suc left) i line e h p = absurd (not-suc-le-zero h)
 
-pub ruleset label-ways = (ways, label_turn, label_out)
+pub ruleset label_ways = (ways, label_turn, label_out)
 
 module _ (s : List ℕ) (g : Geometry) (n at first : ℕ) {r : Lines} where
   pub page_turn : (left i line floor : ℕ) → page_lines s g left i line floor ≡ page_lines s g n at first 0 → 0 < left
@@ -52,7 +52,7 @@ module _ (s : List ℕ) (g : Geometry) (n at first : ℕ) {r : Lines} where
   page_out zero i line floor e h p = p ∙ e
   page_out (suc left) i line floor e h p = absurd (not-suc-le-zero h)
 
-pub ruleset page-ways = (ways, page_turn, page_out)
+pub ruleset page_ways = (ways, page_turn, page_out)
 
 -- ---- what is put into a slice: putting what is left from here on gives what the whole gives, W
 
@@ -83,7 +83,7 @@ module _ (s : List ℕ) {W : List ℕ} {x : Label} {tag path next : ℕ} (left i
       → put (set l k path) (k + 1) (labels_from the_path s (left - 1) next) ≡ W
   paths_on e h b a t = labels_on the_path s left i k l e h b a t
 
-pub ruleset labels-put = (tags_on, paths_on, labels_bad, labels_done)
+pub ruleset labels_put = (tags_on, paths_on, labels_bad, labels_done)
 
 module _ (s : List ℕ) (left i : ℕ) {v : ℕ} (a : v ≡ hex_at s i) where
   one_more : {h j : ℕ} → (v ≡ 256 → ⊥) → h ≡ past_at s i → j ≡ past_at s h → bytes_from s (suc left) i ≡ v ∷ bytes_from s left j
@@ -114,7 +114,7 @@ module _ (s : List ℕ) {W : List ℕ} where
 pub full : {W l : List ℕ} (k : ℕ) (xs : List ℕ) → put l k xs ≡ W → length l ≤ k → l ≡ W
 full {W} {l} k xs e h = sym (put_out l k xs h) ∙ e
 
-pub ruleset bytes-put = (bytes_on, bytes_bad, bytes_done, full)
+pub ruleset bytes_put = (bytes_on, bytes_bad, bytes_done, full)
 
 module _ {W : List ℕ} (left k x : ℕ) (l : List ℕ) where
   pub same_on : put l k (replicate left x) ≡ W → 0 < left → k < length l → put (set l k x) (k + 1) (replicate (left - 1) x) ≡ W
@@ -132,7 +132,7 @@ module _ {W : List ℕ} (left k x : ℕ) (l : List ℕ) where
       go zero e h = e
       go (suc n) e h = absurd (not-suc-le-zero h)
 
-pub ruleset same-put = (same_on, same_done, full)
+pub ruleset same_put = (same_on, same_done, full)
 
 module _ (s : List ℕ) (g : Geometry) (n at : ℕ) (l₀ : List ℕ) {r : List ℕ} where
   pub pages_turn : (left i : ℕ) (l : List ℕ) → pages_from s g left i l ≡ pages_from s g n at l₀ → 0 < left
@@ -146,4 +146,4 @@ module _ (s : List ℕ) (g : Geometry) (n at : ℕ) (l₀ : List ℕ) {r : List 
   pages_out zero i l e h p = p ∙ e
   pages_out (suc left) i l e h p = absurd (not-suc-le-zero h)
 
-pub ruleset pages-ways = (ways, pages_turn, pages_out)
+pub ruleset pages_ways = (ways, pages_turn, pages_out)

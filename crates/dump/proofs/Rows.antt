@@ -11,7 +11,7 @@ use Rattle.meaning.proofs.Shown as shown
 use Rattle.text.specs.Piece.{peek_at, past_at, hex_digit, hex_at, on_field, on_byte, head_at, number_step, number_from, number_at, byte_at, run_step, run_from, run_at}
 use Rattle.text.specs.Put.{put}
 use Rattle.text.proofs.Spelled.{spelled}
-use Rattle.dump.specs.Lines.{sizes, sized, first_at_lem, label_at, page_at, places, on_first, on_label, on_page}
+use Rattle.dump.specs.Lines.{sizes, sized, first_at, label_at, page_at, places, on_first, on_label, on_page}
 use Rattle.dump.specs.Dump.{on_lines, label_step, label_lines, page_step, page_lines, bad_line, dump_of}
 use Rattle.dump.specs.Given.{Given, labels_from, bytes_from, pages_step, pages_from, content_bytes, image_at, on_dump, given}
 use Rattle.dump.specs.declared.Dump.{Dump}
@@ -19,11 +19,11 @@ use Rattle.dump.specs.declared.Dump.TheVariants.{Fine, Refused}
 
 -- the dump of a text whose first line has that number, and the image that it gives
 unfoldable pub says : ℕ → String → Dump
-unfolding spelled if_true if_less if_eq bind peek_at past_at hex_digit hex_at on_field on_byte head_at number_step number_from number_at byte_at run_step run_from run_at put good_size good_pages good_geometry block_size sized first_at_lem label_at page_at places on_first on_label on_page on_lines label_step label_lines page_step page_lines dump_of labels_from bytes_from pages_step pages_from content_bytes image_at on_dump given
+unfolding spelled if_true if_less if_eq bind peek_at past_at hex_digit hex_at on_field on_byte head_at number_step number_from number_at byte_at run_step run_from run_at put good_size good_pages good_geometry block_size sized first_at label_at page_at places on_first on_label on_page on_lines label_step label_lines page_step page_lines dump_of labels_from bytes_from pages_step pages_from content_bytes image_at on_dump given
 says first t = dump_of (spelled t) first
 
 unfoldable pub read_as : String → Answer Given
-unfolding spelled if_true if_less if_eq bind peek_at past_at hex_digit hex_at on_field on_byte head_at number_step number_from number_at byte_at run_step run_from run_at put good_size good_pages good_geometry block_size sized first_at_lem label_at page_at places on_first on_label on_page on_lines label_step label_lines page_step page_lines dump_of labels_from bytes_from pages_step pages_from content_bytes image_at on_dump given
+unfolding spelled if_true if_less if_eq bind peek_at past_at hex_digit hex_at on_field on_byte head_at number_step number_from number_at byte_at run_step run_from run_at put good_size good_pages good_geometry block_size sized first_at label_at page_at places on_first on_label on_page on_lines label_step label_lines page_step page_lines dump_of labels_from bytes_from pages_step pages_from content_bytes image_at on_dump given
 read_as t = given (spelled t) 1
 
 -- ---- the worked dump: where its lines stand, its labels and its bytes

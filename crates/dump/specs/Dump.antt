@@ -5,7 +5,7 @@ use Rattle.std.specs.Prelude.{ℕ, zero, suc, ◌+◌, List, length}
 use Rattle.base.specs.Choice.{if_less}
 use Rattle.meaning.specs.declared.Geometry.{Geometry}
 use Rattle.meaning.specs.declared.Refusal.TheVariants as refused
-use Rattle.dump.specs.Lines.{first_at_lem, label_at, page_at, places, on_first, on_label, on_page}
+use Rattle.dump.specs.Lines.{first_at, label_at, page_at, places, on_first, on_label, on_page}
 use Rattle.dump.specs.declared.Lines.{Lines}
 use Rattle.dump.specs.declared.Lines.TheVariants.{Past, BadLine}
 use Rattle.dump.specs.declared.Dump.{Dump}
@@ -45,7 +45,7 @@ bad_line line = Refused (refused.Dump line)
 -- GEOMETRY, and no later line of that dump is looked at." The first line has the number `first`.
 unfoldable pub dump_of : List ℕ → ℕ → Dump
 dump_of s first =
-    on_first (first_at_lem s 0) (Refused refused.Geometry) (bad_line first) (λ g labels.
+    on_first (first_at s 0) (Refused refused.Geometry) (bad_line first) (λ g labels.
     on_lines (label_lines s g.blocks labels (first + 1)) bad_line (λ pages.
     on_lines (page_lines s g (places g + 1) pages (first + 1 + g.blocks) 0) bad_line (λ end.
     Fine g labels pages)))

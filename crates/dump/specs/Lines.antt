@@ -19,8 +19,8 @@ unfoldable pub sized : Geometry → ℕ → First
 sized g next = if_true (good_geometry g) (bind (block_size g) (λ b. if_less 32768 (g.blocks * b) BadG (Sized g next))) WrongSizes
 
 -- "`G` page size, pages a block, blocks"
-unfoldable pub first_at_lem : List ℕ → ℕ → First
-first_at_lem s at =
+unfoldable pub first_at : List ℕ → ℕ → First
+first_at s at =
     on_field (head_at s at 71) BadG (λ z i.
     on_field (number_at s i tab) BadG (λ size j.
     on_field (number_at s j tab) BadG (λ pages k.

@@ -1,5 +1,7 @@
 // A dump, as the listing program reads it. The whole text is looked at first, and the lent slices are filled after, so a refusal leaves
 // them as they were. The text is one dump; the number of its first line is told, so a dump may be part of a longer input.
+#![tactic(auto)]
+
 ghost use Rattle.std.specs.Prelude.{◌≡◌, ◌+◌, ◌*◌, ◌≤◌, length, replicate};
 ghost use Rattle.meaning.specs.Flash.{good_geometry, good_pages, good_size};
 ghost use Rattle.text.specs.Put.{put};
@@ -11,7 +13,7 @@ use meaning::{Geometry, Refusal};
 use text::{Byte, Field};
 
 /// What the first line says: sizes and the place past it; sizes that are wrong; or no G line.
-#[derive(Drop)]
+#[derive(Clone, Copy)]
 pub enum First {
     Sized(Geometry, usize),
     WrongSizes,
@@ -19,14 +21,14 @@ pub enum First {
 }
 
 /// What a B line says, and the place past it.
-#[derive(Drop)]
+#[derive(Clone, Copy)]
 pub enum Label {
     Tagged { tag: u8, path: u64, next: usize },
     BadB,
 }
 
 /// What a P line says: the page's place, counted over all blocks, where its bytes stand, how many, and the place past the line.
-#[derive(Drop)]
+#[derive(Clone, Copy)]
 pub enum Page {
     Bytes {
         place: u32,
@@ -38,14 +40,14 @@ pub enum Page {
 }
 
 /// The place past lines that are good, or the number of the first bad one.
-#[derive(Drop)]
+#[derive(Clone, Copy)]
 pub enum Lines {
     Past(usize),
     BadLine(u64),
 }
 
 /// What a dump says: its sizes, and where its B lines and its P lines begin; or its refusal, GEOMETRY or DUMP.
-#[derive(Drop)]
+#[derive(Clone, Copy)]
 pub enum Dump {
     Fine(Geometry, usize, usize),
     Refused(Refusal),

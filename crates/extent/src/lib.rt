@@ -1,5 +1,7 @@
 // Extents in rows [path, offset, count, address] of a lent slice, by path and then offset. On the line of all files' bytes
 // (start = path × 2^32 + offset) runs of two files never meet, so no function asks whose row it looks at.
+#![tactic(auto)]
+
 ghost use Rattle.std.specs.Prelude.{◌≡◌, [], ◌∷◌, ◌++◌, map, ◌+◌, ◌-◌, ◌*◌, ◌^◌, ◌≤◌, ◌<◌, length, take, drop};
 ghost use Rattle.meaning.specs.Replay.{start, end, front, back, before, after, lay};
 ghost use Rattle.extent.specs.Halves.{by_halves};
@@ -13,7 +15,7 @@ struct Piece {
 }
 
 // The rows from one place up to another.
-#[derive(Drop)]
+#[derive(Clone, Copy)]
 struct Touched {
     from: usize,
     to: usize,

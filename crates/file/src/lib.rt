@@ -1,11 +1,13 @@
 // The read of a file as a service: the mount's refusals, then NOFILE, then the bytes.
+#![tactic(auto)]
+
 ghost use Rattle.std.specs.Prelude.{◌≡◌, [], map, ◌+◌, ◌-◌, ◌^◌, ◌<◌, ◌≤◌, min, length, length as the_length, get_or, take};
 ghost use Rattle.meaning.specs.Flash.{image_of};
 ghost use Rattle.meaning.specs.Replay.{look};
 ghost use Rattle.meaning.specs.Services.{buffer_after, copied, read as the_read};
 ghost use Rattle.extent.specs.Rows.{extent_of};
 ghost use Rattle.plan.specs.Select.{lent};
-ghost use Rattle.log.specs.Cursor.{Ready};
+ghost use Rattle.flash_log.specs.Cursor.{Ready};
 ghost use Rattle.shown.specs.Shown.{Lines};
 ghost use Rattle.file.specs.File.{answer, length_of, Low, LowOf};
 
@@ -14,14 +16,14 @@ use plan::Selected;
 use replay::Said;
 
 /// How many bytes were read, or why none.
-#[derive(Drop)]
+#[derive(Clone, Copy)]
 pub enum Outcome {
     Read(usize),
     Refused(Refusal),
 }
 
 // The length of a plain file, or none: "path absent or a directory".
-#[derive(Drop)]
+#[derive(Clone, Copy)]
 enum Length {
     Of(u32),
     Nothing,

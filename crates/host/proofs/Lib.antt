@@ -1,7 +1,5 @@
--- Laws of the mount, and a call of its core as one step of its walk.
+-- Laws of the mount, and what the exported answers can be.
 pub mod Laws
 pub mod Numbers
-pub mod Fields
-pub mod Cores
 pub mod One
 pub mod Impostors

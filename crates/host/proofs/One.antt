@@ -18,9 +18,7 @@ use Rattle.replay.specs.declared.Said.TheVariants.{Whole, Refused}
 use Rattle.replay.specs.Replay.{answer_by}
 use Rattle.used.specs.Bits.{listed, used_bits}
 use Rattle.answer.specs.declared.Mounted.{Mounted}
-use Rattle.outcome.specs.declared.Outcome.{Outcome}
-use Rattle.answer.specs.Mounted.{insert_of, insertion_of, mounted, outcome_of, said_of, stands_for, Sizes, Sized}
-use Rattle.answer.specs.declared.Insertion.{Insertion}
+use Rattle.answer.specs.Mounted.{insertion_of, mounted, outcome_of, said_of, stands_for, Sizes, Sized}
 
 -- ---- an answer by its parts
 

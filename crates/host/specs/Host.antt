@@ -1,7 +1,7 @@
 -- What the numbers say that a host is given. An Outcome says how a service ended: 0, or document 01's number and place (answer: said_of).
 use Rattle.std.specs.Prelude.{ℕ, ◌≡◌, List, map, take}
 use Rattle.meaning.specs.declared.Step.{Step}
-use Rattle.meaning.specs.Answer.{Answer, number_of, place_of}
+use Rattle.meaning.specs.Answer.{Answer}
 use Rattle.meaning.specs.Services.{settle_steps}
 use Rattle.outcome.specs.declared.Outcome.{Outcome}
 use Rattle.replay.specs.Replay.{answer_by}

@@ -1,5 +1,7 @@
 // The services for hosts in C, exported: answers are structs of numbers, and all that is lent is lent by the host. A slice is two arguments
 // in C, its place and its length. include/chimecorona.h declares them.
+#![tactic(auto)]
+
 ghost use Rattle.std.specs.Prelude.{◌≡◌, length};
 ghost use Rattle.meaning.specs.Flash.{labels_of};
 ghost use Rattle.meaning.specs.Mount.{mount_into, table_after};
@@ -40,14 +42,14 @@ pub struct Reclaimed {
 
 /// What a read answers: how many bytes.
 #[repr(C)]
-#[derive(Drop)]
+#[derive(Clone, Copy)]
 pub struct Count {
     pub said: Outcome,
     pub count: usize,
 }
 
 /// Mounts the lent slices. The table's length goes to the core, which refuses any but 256; where it refuses there are no records
-/// to store, and the table is not touched. Structs behind a lent slice are proved by hand, so it is thin: it decides nothing.
+/// to store, and the table is not touched. It decides nothing.
 #[unsafe(no_mangle)]
 pub extern "C" fn chimecorona_mount(
     g: Geometry,

@@ -1,5 +1,7 @@
 // Labels: what one says, and which block stands for which number. Tags are compared by what they mean, never by their bytes. Every
 // function is total: past the end of a slice stands 0.
+#![tactic(auto)]
+
 ghost use Rattle.std.specs.Prelude.{◌≡◌, ◌/◌, ◌%◌, ◌<◌, min, ◌||◌, eqb, length, get_or};
 ghost use Rattle.base.specs.Scan.{any};
 ghost use Rattle.meaning.specs.Flash.{address_of, bad_path, bad_tag, block_size, byte_of, copy_of, follows, labels_of, r_of, same_tag, successor, tag_of};
@@ -9,7 +11,7 @@ ghost use Rattle.label.specs.Search.{bears as the_bears, found, labelled, newer_
 use meaning::{Address, Block, Geometry, Number, Tag};
 
 /// A copy generation or a log generation, counted mod 4.
-#[derive(Drop)]
+#[derive(Clone, Copy)]
 pub struct Generation(pub u8);
 
 impl Generation {
@@ -50,7 +52,7 @@ pub fn same_tag(s: Tag, t: Tag) -> bool
     byte_of(s) == byte_of(t)
 }
 
-#[derive(Drop)]
+#[derive(Clone, Copy)]
 pub struct Label {
     pub tag: u8,
     pub path: u64,
@@ -396,7 +398,7 @@ fn stands_for(tags: &[u8], paths: &[u64], t: Tag, r: u64, b: Block) -> bool
 }
 
 /// A place, or none.
-#[derive(Drop)]
+#[derive(Clone, Copy)]
 pub enum Found {
     At(Block),
     Nothing,

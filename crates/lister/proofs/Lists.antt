@@ -17,8 +17,8 @@ use Rattle.listing.specs.Wrote.{Wrote}
 use Rattle.listing.specs.Lines.{extent_line, file_line}
 use Rattle.listing.specs.Listing.{extent_lines, file_lines, insertion_of}
 use Rattle.listing.specs.declared.Insertion.TheVariants as insertion
-use Rattle.log.specs.declared.insertion.Point.{Point}
-use Rattle.log.specs.declared.insertion.Point.TheVariants as point
+use Rattle.flash_log.specs.declared.insertion.Point.{Point}
+use Rattle.flash_log.specs.declared.insertion.Point.TheVariants as point
 use Rattle.shown.specs.Shown.{place_of}
 use Rattle.listing.proofs.Left.{Left, left_start, left_done, left_on}
 use Rattle.listing.proofs.Ways.{wrote_none, wrote_then, wrote_yes=, wrote_no=}
@@ -50,7 +50,7 @@ module _ (p : ℕ) (rows : List (List ℕ)) (l₀ : List ℕ) (at₀ : ℕ) wher
     unfolding extent_lines
     rows_on h q = left_on (row_lines p) rows l₀ at₀ i w [] _ refl h q
 
-pub ruleset rows-ways = (rows_start, rows_done, rows_on)
+pub ruleset rows_ways = (rows_start, rows_done, rows_on)
 
 -- ---- the files: the first n of the records
 
@@ -74,7 +74,7 @@ module _ (contents : List ℕ) (xs : List Extent) (records : List Record) (n : �
         (rw (get_or-take n records i no_record h) (sym (append_assoc line rows (file_lines contents xs (drop (i + 1) (take n records))))))
         (omega (arith, length-take-le n records k)) (wrote_then line rows p q)
 
-pub ruleset files-ways = (files_start, files_done, files_on)
+pub ruleset files_ways = (files_start, files_done, files_on)
 
 -- ---- a name, as far as the contents go
 

@@ -1,14 +1,13 @@
 -- The whole listing by its parts.
 use Prim.Native.Nat.{ℕ, ◌-◌, ◌*◌, ◌≤◌}
 use native.Mathlib.Nat.{sub-zero}
-use native.Mathlib.Omega.{arith}
 use mathlib.Core.List.{List, map}
-use mathlib.Core.Path.{◌≡◌, refl, sym, ap, subst, ◌∙◌}
+use mathlib.Core.Path.{◌≡◌, sym, ap, subst, ◌∙◌}
 use lib.ListN.{length, take, drop, length-map}
 use lib.Seq.{length-take-le}
 use Rattle.meaning.specs.declared.Geometry.{Geometry}
 use Rattle.meaning.specs.declared.Refusal.{Refusal}
-use Rattle.meaning.specs.Answer.{Answer, ok, no}
+use Rattle.meaning.specs.Answer.{Answer}
 use Rattle.meaning.specs.Flash.{Lent, block_size}
 use Rattle.meaning.specs.Mount.{Mounted, mount_of}
 use Rattle.extent.specs.Rows.{extent_of}
@@ -20,7 +19,7 @@ use Rattle.shown.specs.declared.Shown.{Shown}
 use Rattle.shown.specs.Shown.{mounted, place_of, showing, Sized, Sizes}
 use Rattle.dump.specs.declared.Dump.{Dump}
 use Rattle.dump.specs.declared.Dump.TheVariants as dump
-use Rattle.dump.specs.Given.{answer, given, content_bytes, image_at, tags_after, paths_after, contents_after}
+use Rattle.dump.specs.Given.{answer, content_bytes, image_at, tags_after, paths_after, contents_after}
 use Rattle.dump.proofs.Lent.{fine_fit, lent_on, lends, gives, gives_no}
 use Rattle.listing.specs.Wrote.{Wrote}
 use Rattle.listing.specs.Lines.{total_line, refusal_line}

@@ -1,5 +1,7 @@
 // The listing of a text, whole, in a lent buffer: the dump is read, mounted, and its lines are written one after another. What has no
 // room is left out, so a caller looks once: a place below the buffer's end says that all stands.
+#![tactic(auto)]
+
 ghost use Rattle.std.specs.Prelude.{◌≡◌, [], ◌∷◌, map, ◌≤◌, length, take};
 ghost use Rattle.base.specs.Choice.{if_eq, if_less};
 ghost use Rattle.meaning.specs.Flash.{text as the_text};
@@ -12,8 +14,8 @@ ghost use Rattle.listing.specs.Wrote.{Wrote};
 ghost use Rattle.shown.specs.Shown.{mounted, place_of};
 
 use dump::Dump;
+use flash_log::insertion::Point;
 use listing::Insertion;
-use log::insertion::Point;
 use meaning::{Extent, Geometry, Record};
 use replay::Said;
 use shown::Shown;

@@ -133,7 +133,7 @@ module _ {l m k : List ℕ} {at to end : ℕ} where
   digits_more zero n z h p q = absurd (z refl)
   digits_more (suc left) n z h p q = wrote_no< _ _ _ _ h (wrote_then _ _ (rw (sub-one (suc left)) at p) q)
 
-pub ruleset digits-ways = (digits_none, digits_small, digits_more)
+pub ruleset digits_ways = (digits_none, digits_small, digits_more)
 
 -- ---- a loop over a name
 
@@ -150,4 +150,4 @@ module _ (name l₀ : List ℕ) (at₀ : ℕ) where
     unfolding escapes
     name_on h p = left_on escapes name l₀ at₀ i w 0 _ refl h p
 
-pub ruleset name-ways = (name_start, name_done, name_on)
+pub ruleset name_ways = (name_start, name_done, name_on)

@@ -1,5 +1,7 @@
 // The listing's lines, written into a lent buffer. Each function answers with the place past what it wrote. What has no room is left
 // out, and the place then stays at the end, so a caller looks once, after the last: a place below the end says that all stands.
+#![tactic(auto)]
+
 ghost use Rattle.std.specs.Prelude.{◌≡◌, [], ◌∷◌, ◌<◌};
 ghost use Rattle.listing.specs.Wrote.{Wrote};
 ghost use Rattle.listing.specs.Lines.{decimal, digits_of, escaped, escapes, extent_line, field, file_line, hex_sign, hex_text, insertion_text, name_text, percent, record_text, refusal_line, run_line, total_line};
@@ -7,7 +9,7 @@ ghost use Rattle.listing.specs.Lines.{decimal, digits_of, escaped, escapes, exte
 use meaning::{Address, Extent, Record, Refusal};
 
 /// The insertion point: the logical address of a page, or none.
-#[derive(Drop)]
+#[derive(Clone, Copy)]
 pub enum Insertion {
     At(Address),
     Nowhere,

@@ -6,12 +6,10 @@ use mathlib.Core.List.{List, [], ◌∷◌, map}
 use Prim.Native.Nat.{ℕ, ◌+◌, ◌*◌, ◌^◌}
 use lib.ListN.{length, replicate}
 use Rattle.meaning.specs.declared.Geometry.{Geometry}
-use Rattle.meaning.specs.declared.Record.{Record}
 use Rattle.meaning.specs.declared.Message.{Message}
 use Rattle.meaning.specs.declared.Message.TheVariants.{Truncate, Write}
 use Rattle.meaning.specs.Answer.{Answer, ok, no, number_of, place_of}
-use Rattle.meaning.specs.Flash.{address_of, path_of, log_r, text}
-use Rattle.meaning.specs.Log.{Entry}
+use Rattle.meaning.specs.Flash.{address_of, path_of, log_r}
 use Rattle.meaning.specs.Replay.{Tree, nothing, root, created, told}
 use Rattle.meaning.specs.Mount.{Mounted, mount_of, used}
 use Rattle.meaning.proofs.Shown.{Dump, line, lent, lines}

@@ -1,14 +1,13 @@
 -- What a mount shows of a dump, in numbers: the lines of document 01's listing, for rows that the checker computes.
 use Prim.Native.Nat.{ℕ, zero, suc, ◌+◌, ◌-◌, ◌*◌, ◌/◌, ◌%◌, ◌^◌}
-use mathlib.Core.Bool.{Bool, true, false, xor}
-use mathlib.Core.Option.{Option, none, some}
-use mathlib.Core.List.{List, [], ◌∷◌, ◌++◌, map}
+use mathlib.Core.Bool.{true, false, xor}
+use mathlib.Core.List.{List, [], ◌∷◌, ◌++◌}
 use lib.ListN.{length, replicate}
 use lib.Dec.{eqb}
 use Rattle.meaning.specs.declared.Geometry.{Geometry}
 use Rattle.meaning.specs.declared.Record.{Record}
 use Rattle.meaning.specs.declared.Extent.{Extent}
-use Rattle.base.specs.Choice.{if_true, if_less, if_eq, bind, on_some, is_some_lem, test, or_else, provided, or_zero}
+use Rattle.base.specs.Choice.{if_true, if_less, if_eq, bind, on_some, is_some, test, or_else, provided, or_zero}
 use Rattle.base.specs.Scan.{any, first, places, all_of, any_of}
 use Rattle.meaning.specs.Answer.{Answer, ok, no, number_of, place_of, unless, and_then, lowest}
 use Rattle.meaning.specs.Flash.{Lent, good_size, good_pages, good_geometry, block_size, address_of, fits, text, tag_of, byte_of, same_tag, copy_of, r_of, log_r, log_number, log_generation, block_number, path_of, successor, follows, bad_tag, bad_path, labels_of, begins, image_of, blank, page_of}
@@ -16,7 +15,7 @@ use Rattle.meaning.specs.Labels.{same_block, newer, clash, unresolved, older, co
 use Rattle.meaning.specs.Log.{empty, stopped, entry, join, embedded_limit, messages, page_log, log_page, pages_from, block_log, log_of, bytes_at, log_block, log_blocks, planned, replayed, insertion}
 use Rattle.meaning.specs.Message.{u16, u32, string, place_at, past, barred, dots, good_name, good_embedded, good_run, in_log, good_data, well_formed, create_at, remove_at, truncate_at, write_at, wstat_at, typed, parse}
 use Rattle.meaning.specs.Mount.{Mounted, in_data, touches, used, used_pages, idle, lacks, absent, is_dropped, is_idle, to_erase, erase_list, shown, mount, mount_of, mount_into, filled, table_after, covers, where_is, log_bytes, data_bytes, byte_in, byte_at, file_byte}
-use Rattle.meaning.specs.Replay.{Tree, nothing, root, bit31, is_dir, look, alter, insert, delete, entry_of, is_empty, home_of, spot, start, end, front, back, before, after, lay, others, stamp, sized, created, truncated, written, given, given_text, restated, judge, applies, own_after, parent_after, records_after, extents_after, changed, full, within_limits, passed_over, step, told, bare, replay}
+use Rattle.meaning.specs.Replay.{nothing, root, bit31, is_dir, look, alter, insert, delete, entry_of, is_empty, home_of, spot, start, end, front, back, before, after, lay, others, stamp, sized, created, truncated, written, given, given_text, restated, judge, applies, own_after, parent_after, records_after, extents_after, changed, full, within_limits, passed_over, step, told, bare, replay}
 use Rattle.meaning.specs.Services.{overwrite, relabel, erased, done, inside, do_step, do_steps, settle_steps, settle, is_free, free_blocks, lowest_free, writable, cleared, renewed_path, reclaim_steps, reclaim_on, reclaim, done_all, leaves, bytes_from, readable, read, copied, buffer_after}
 
 -- ---- a dump
@@ -80,5 +79,5 @@ answer_lines contents (ok a) =
     ∷ file_lines contents a.tree.extents a.tree.records
 
 unfoldable pub lines : Dump → List (List ℕ)
-unfolding xor if_true if_less if_eq bind on_some is_some_lem test or_else provided or_zero any first places all_of any_of number_of place_of unless and_then lowest good_size good_pages good_geometry block_size address_of fits text tag_of byte_of same_tag copy_of r_of log_r log_number log_generation block_number path_of successor follows bad_tag bad_path labels_of begins image_of blank page_of same_block newer clash unresolved older counts view is find has gap boot_gap of_generation unplaced has_generation leads active_generation lowest_number unbroken plan_from plan_of in_active in_swept dropped placed stray unswept bad_log log_plan generation_at find_log find_data label_refusal empty stopped entry join embedded_limit messages page_log log_page pages_from block_log log_of bytes_at log_block log_blocks planned replayed insertion u16 u32 string place_at past barred dots good_name good_embedded good_run in_log good_data well_formed create_at remove_at truncate_at write_at wstat_at typed parse in_data touches used used_pages idle lacks absent is_dropped is_idle to_erase erase_list shown mount mount_of mount_into filled table_after covers where_is log_bytes data_bytes byte_in byte_at file_byte nothing root bit31 is_dir look alter insert delete entry_of is_empty home_of spot start end front back before after lay others stamp sized created truncated written given given_text restated judge applies own_after parent_after records_after extents_after changed full within_limits passed_over step told bare replay overwrite relabel erased done inside do_step do_steps settle_steps settle is_free free_blocks lowest_free writable cleared renewed_path reclaim_steps reclaim_on reclaim done_all leaves bytes_from readable read copied buffer_after line spelled contents_from lent extent_line extent_lines file_lines answer_lines
+unfolding xor if_true if_less if_eq bind on_some is_some test or_else provided or_zero any first places all_of any_of number_of place_of unless and_then lowest good_size good_pages good_geometry block_size address_of fits text tag_of byte_of same_tag copy_of r_of log_r log_number log_generation block_number path_of successor follows bad_tag bad_path labels_of begins image_of blank page_of same_block newer clash unresolved older counts view is find has gap boot_gap of_generation unplaced has_generation leads active_generation lowest_number unbroken plan_from plan_of in_active in_swept dropped placed stray unswept bad_log log_plan generation_at find_log find_data label_refusal empty stopped entry join embedded_limit messages page_log log_page pages_from block_log log_of bytes_at log_block log_blocks planned replayed insertion u16 u32 string place_at past barred dots good_name good_embedded good_run in_log good_data well_formed create_at remove_at truncate_at write_at wstat_at typed parse in_data touches used used_pages idle lacks absent is_dropped is_idle to_erase erase_list shown mount mount_of mount_into filled table_after covers where_is log_bytes data_bytes byte_in byte_at file_byte nothing root bit31 is_dir look alter insert delete entry_of is_empty home_of spot start end front back before after lay others stamp sized created truncated written given given_text restated judge applies own_after parent_after records_after extents_after changed full within_limits passed_over step told bare replay overwrite relabel erased done inside do_step do_steps settle_steps settle is_free free_blocks lowest_free writable cleared renewed_path reclaim_steps reclaim_on reclaim done_all leaves bytes_from readable read copied buffer_after line spelled contents_from lent extent_line extent_lines file_lines answer_lines
 lines d = answer_lines (lent d).contents (mount_of d.geometry (lent d))

@@ -6,7 +6,7 @@ use Rattle.meaning.specs.declared.Address.{Address}
 use Rattle.meaning.specs.declared.Block.{Block}
 use Rattle.meaning.specs.declared.Refusal.{Refusal}
 use Rattle.meaning.specs.declared.Refusal.TheVariants as refused
-use Rattle.base.specs.Choice.{on_some, provided}
+use Rattle.base.specs.Choice.{on_some}
 use Rattle.base.specs.Scan.{first}
 
 -- A physical block index, a logical block number and a logical byte address.

@@ -2,7 +2,6 @@
 use Rattle.std.specs.Prelude.{ℕ, ◌<◌, ◌≡◌, ◌⊎◌, ◌≢◌, true, false, List, [], ◌∷◌, length, get_or, replicate}
 use Rattle.std.proofs.Math.Option.{some}
 use Rattle.meaning.specs.declared.Geometry.{Geometry}
-use Rattle.meaning.specs.declared.Place.{Place}
 use Rattle.meaning.specs.declared.Record.{Record}
 use Rattle.meaning.specs.declared.Step.{Step}
 use Rattle.meaning.specs.declared.Step.TheVariants.{Erase, PageWrite, LabelWrite}
@@ -11,7 +10,7 @@ use Rattle.base.specs.Member.{In}
 use Rattle.meaning.specs.Answer.{ok}
 use Rattle.meaning.specs.Flash.{Lent, image_of, begins, block_size, page_of, blank, byte_of, erased_path, r_of, text}
 use Rattle.meaning.specs.Labels.{find_data}
-use Rattle.meaning.specs.Replay.{Tree, look}
+use Rattle.meaning.specs.Replay.{look}
 use Rattle.meaning.specs.Mount.{Mounted, mount_of, used}
 use Rattle.meaning.specs.Services.{overwrite, relabel, done, renewed_path, read, buffer_after}
 

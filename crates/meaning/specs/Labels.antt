@@ -1,13 +1,13 @@
 -- Which block stands for which number, and the refusals that the labels alone decide (01, "Geometry and labels"). n is the count of
 -- blocks. No byte of a block can be looked at here.
 use Rattle.std.specs.Prelude.{ℕ, zero, suc, ◌+◌, ◌-◌, ◌%◌, Bool, not, ◌&&◌, ◌||◌, eqb, ltb}
-use Rattle.std.proofs.Math.Option.{Option, none, some}
+use Rattle.std.proofs.Math.Option.{Option}
 use Rattle.meaning.specs.declared.Tag.{Tag}
 use Rattle.meaning.specs.declared.Tag.TheVariants.{Free, Boot, Log, Data}
 use Rattle.meaning.specs.declared.Plan.{Plan}
 use Rattle.meaning.specs.declared.Refusal.{Refusal}
 use Rattle.meaning.specs.declared.Refusal.TheVariants as refused
-use Rattle.base.specs.Choice.{if_true, if_less, is_some_lem, test, or_else, provided, or_zero}
+use Rattle.base.specs.Choice.{if_true, if_less, is_some, test, or_else, provided, or_zero}
 use Rattle.base.specs.Scan.{any, first}
 use Rattle.meaning.specs.Answer.{number, lowest}
 use Rattle.meaning.specs.Flash.{Labels, same_tag, copy_of, r_of, log_r, log_number, log_generation, successor, follows, bad_tag, bad_path}
@@ -59,7 +59,7 @@ module _ (n : ℕ) (v : ℕ → Option ℕ) where
   find r = first n (λ i. is (v i) r)
 
   unfoldable pub has : ℕ → Bool
-  has r = is_some_lem (find r)
+  has r = is_some (find r)
 
   -- ---- "Boot blocks number 0 to n − 1 (n may be 0)": each number has the one below it
 

@@ -6,9 +6,8 @@ use Rattle.meaning.specs.declared.Plan.{Plan}
 use Rattle.meaning.specs.declared.Refusal.{Refusal}
 use Rattle.meaning.specs.declared.Refusal.TheVariants as refused
 use Rattle.meaning.specs.declared.Message.{Message}
-use Rattle.meaning.specs.declared.Parsed.{Parsed}
 use Rattle.meaning.specs.declared.Parsed.TheVariants.{Malformed, End, Found}
-use Rattle.base.specs.Choice.{if_true, on_some, or_zero}
+use Rattle.base.specs.Choice.{on_some, or_zero}
 use Rattle.base.specs.Scan.{first}
 use Rattle.meaning.specs.Answer.{address}
 use Rattle.meaning.specs.Flash.{Image, address_of, begins, blank, page_of, log_r, log_number}

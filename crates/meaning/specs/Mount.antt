@@ -7,7 +7,7 @@ use Rattle.meaning.specs.declared.Refusal.{Refusal}
 use Rattle.meaning.specs.declared.Refusal.TheVariants as refused
 use Rattle.meaning.specs.declared.Record.{Record}
 use Rattle.meaning.specs.declared.Extent.{Extent}
-use Rattle.base.specs.Choice.{if_true, is_some_lem, test, provided, or_else, on_some}
+use Rattle.base.specs.Choice.{if_true, is_some, test, provided, or_else, on_some}
 use Rattle.base.specs.Scan.{any, places, any_of}
 use Rattle.meaning.specs.Answer.{Answer, ok, no, unless, and_then}
 use Rattle.meaning.specs.Flash.{Lent, Image, Labels, image_of, fits, block_size, address_of}
@@ -39,7 +39,7 @@ idle g xs d = not (any g.pages (used g xs d))
 
 -- DATA: "a live extent's data block is absent"
 unfoldable pub lacks : Geometry → Labels → Extent → Bool
-lacks g m e = in_data e && not (is_some_lem (find_data g.blocks m (e.address / block_size g)))
+lacks g m e = in_data e && not (is_some (find_data g.blocks m (e.address / block_size g)))
 
 -- "lowest path of a file with one": extents ascend by path, so it is the first
 unfoldable pub absent : Geometry → Labels → List Extent → Option Refusal

@@ -1,11 +1,8 @@
 -- Settle, reclaim and read, and one step by itself (01, "Making room, and where power may go").
 use Rattle.std.specs.Prelude.{ℕ, zero, suc, ◌+◌, ◌-◌, ◌*◌, min, Bool, ◌&&◌, List, [], ◌∷◌, ◌++◌, map, length, set, take, drop, replicate, ltb}
-use Rattle.std.proofs.Math.Option.{Option, none, some}
 use Rattle.meaning.specs.declared.Geometry.{Geometry}
-use Rattle.meaning.specs.declared.Block.{Block}
 use Rattle.meaning.specs.declared.Tag.TheVariants.{Free, Data}
 use Rattle.meaning.specs.declared.Refusal.TheVariants as refused
-use Rattle.meaning.specs.declared.Record.{Record}
 use Rattle.meaning.specs.declared.Extent.{Extent}
 use Rattle.meaning.specs.declared.Step.{Step}
 use Rattle.meaning.specs.declared.Step.TheVariants.{Erase, PageWrite, LabelWrite}
@@ -14,7 +11,7 @@ use Rattle.base.specs.Scan.{first, places}
 use Rattle.meaning.specs.Answer.{Answer, ok, no, and_then, block, number}
 use Rattle.meaning.specs.Flash.{Lent, Image, Labels, image_of, begins, fits, block_size, blank, page_of, same_tag, byte_of, erased_path, copy_of, path_of, successor}
 use Rattle.meaning.specs.Labels.{find_data}
-use Rattle.meaning.specs.Replay.{Tree, is_dir, look}
+use Rattle.meaning.specs.Replay.{is_dir, look}
 use Rattle.meaning.specs.Mount.{Mounted, mount_of, used_pages, file_byte}
 
 -- ---- one step on the lent slices

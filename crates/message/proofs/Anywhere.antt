@@ -4,7 +4,6 @@ use mathlib.Core.List.{List}
 use Prim.Native.Nat.{ℕ}
 use Rattle.meaning.specs.declared.Place.{Place}
 use Rattle.meaning.specs.declared.Extent.{Extent}
-use Rattle.meaning.specs.declared.Parsed.{Parsed}
 use Rattle.meaning.specs.declared.Parsed.TheVariants.{Found}
 use Rattle.meaning.specs.declared.Message.TheVariants.{Write}
 use Rattle.meaning.specs.Message.{create_at, remove_at, truncate_at, wstat_at, place_at}

@@ -1,4 +1,6 @@
 // Pages of the log: any bytes in, a message with the places of its strings, or that it has not its form, out. No string is copied.
+#![tactic(auto)]
+
 ghost use Rattle.std.specs.Prelude.{◌≡◌, ◌&&◌, ◌+◌, ◌-◌, ◌^◌, ◌≤◌, ◌<◌, eqb, length, get_or, take, drop};
 ghost use Rattle.meaning.specs.Flash.{blank, block_size};
 ghost use Rattle.meaning.specs.Message.{u16 as le16, u32 as le32, string, past, place_at, barred, dots, good_name, in_log, good_embedded, good_run, good_data, create_at, remove_at, truncate_at, write_at, wstat_at, typed, parse as the_parse};

@@ -1,4 +1,6 @@
 // How a service ended, in the numbers of document 01: what a host sees of a refusal.
+#![tactic(auto)]
+
 ghost use Rattle.std.specs.Prelude.{◌≡◌};
 ghost use Rattle.meaning.specs.Answer.{number_of, place_of};
 
@@ -6,7 +8,7 @@ use meaning::Refusal;
 
 /// 0 and 0 where nothing was refused, else the refusal's number and the place that it gives.
 #[repr(C)]
-#[derive(Drop)]
+#[derive(Clone, Copy)]
 pub struct Outcome {
     pub refusal: u32,
     pub place: u64,

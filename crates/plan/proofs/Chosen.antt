@@ -14,7 +14,7 @@ use Rattle.meaning.specs.declared.Plan.{Plan}
 use Rattle.meaning.specs.declared.Refusal.{Refusal}
 use Rattle.meaning.specs.declared.Refusal.TheVariants as refused
 use Rattle.meaning.specs.declared.Tag.TheVariants as means
-use Rattle.meaning.specs.Answer.{block, lowest, unless}
+use Rattle.meaning.specs.Answer.{lowest, unless}
 use Rattle.meaning.specs.Flash.{Labels, bad_path, bad_tag, fits, labels_of}
 use Rattle.meaning.specs.Labels.{bad_log, boot_gap, label_refusal, log_plan, unresolved, view}
 use Rattle.label.specs.Search.{found}

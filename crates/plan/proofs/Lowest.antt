@@ -8,7 +8,7 @@ use mathlib.Core.Path.{◌≡◌, refl, sym, ap, ◌∙◌, subst}
 use mathlib.Core.Logic.{◌≢◌, ◌⊎◌, inl, inr, ⊎_elim}
 use lib.Dec.{T, eqb}
 use borrow.Author.Tests.{eq-eqb, ne_eqb, lt-ltb, le-ltb}
-use Rattle.base.specs.Choice.{if_true, is_some_lem, on_some, or_zero, test}
+use Rattle.base.specs.Choice.{if_true, is_some, on_some, or_zero, test}
 use Rattle.base.proofs.Tests.{is_true, not_both, eq_or, lt_or, eqb_of}
 use Rattle.base.proofs.Scans.{first_has, first_none_intro}
 use Rattle.meaning.specs.Flash.{log_generation, log_number, log_r}
@@ -82,7 +82,7 @@ module _ (n : ℕ) (v : ℕ → Option ℕ) (g : ℕ) where
       before j p z = omega arith
 
   has_not : (r : ℕ) → ((j : ℕ) → j < n → is (v j) r ≡ false) → has n v r ≡ false
-  unfolding has find is_some_lem
+  unfolding has find is_some
   has_not r f = rw (first_none_intro n (λ j. is (v j) r) (λ j l t. not_both _ (f j l) t))
 
   module _ {x : ℕ} (i : ℕ) (s : Lowered i x) (h : n ≤ i) where

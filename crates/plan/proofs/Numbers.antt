@@ -10,7 +10,7 @@ use lib.ListN.{get_or, set, replicate, length-set, length-replicate, get_or-repl
 use lib.Seq.{get_or-set_same, get_or-set_other}
 use lib.Dec.{T}
 use borrow.Author.Tests.{eq-eqb, ne_eqb}
-use Rattle.base.specs.Choice.{is_some_lem}
+use Rattle.base.specs.Choice.{is_some}
 use Rattle.base.specs.Scan.{any, first}
 use Rattle.base.proofs.Tests.{T-ext, eq_or}
 use Rattle.base.proofs.Scans.{Found, any_intro, any_elim, first_has, first_some}
@@ -54,11 +54,11 @@ module _ (v : ℕ → Option ℕ) (g from : ℕ) where
 
 -- ---- for the run
 
-some_any : (n : ℕ) (q : ℕ → Bool) → any n q ≡ is_some_lem (first n q)
-unfolding is_some_lem
+some_any : (n : ℕ) (q : ℕ → Bool) → any n q ≡ is_some (first n q)
+unfolding is_some
 some_any n q = T-ext _ _ (λ t. let f : Found n q = any_elim n q t in first_has n q f.place f.below f.passes) (λ t. go (first n q) refl t)
   where
-    go : (o : Option ℕ) → first n q ≡ o → T (is_some_lem o) → T (any n q)
+    go : (o : Option ℕ) → first n q ≡ o → T (is_some o) → T (any n q)
     go none e t = absurd t
     go (some k) e t = let f = first_some n q k e in any_intro n q k f.0 f.1
 

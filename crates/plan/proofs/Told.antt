@@ -4,13 +4,13 @@ use native.Mathlib.Nat.{mul-le-mul}
 use native.Mathlib.Omega.{arith}
 use mathlib.Core.Bool.{Bool, true, false, not, ◌&&◌}
 use mathlib.Core.List.{List}
-use mathlib.Core.Option.{Option, none}
+use mathlib.Core.Option.{Option}
 use mathlib.Core.Path.{◌≡◌, refl, sym, ap, ap₂, ◌∙◌}
 use mathlib.Core.Logic.{◌≢◌, ⊎_elim}
 use lib.ListN.{get_or}
 use lib.Dec.{eqb, ltb}
 use borrow.Author.Tests.{eq-eqb, ne_eqb, lt-ltb, le-ltb, lt-leb, not-true, not-false}
-use Rattle.base.specs.Choice.{if_true, is_some_lem, on_some, provided, test}
+use Rattle.base.specs.Choice.{if_true, is_some, on_some, provided, test}
 use Rattle.base.proofs.Tests.{lt_or}
 use Rattle.meaning.specs.declared.Block.{Block}
 use Rattle.meaning.specs.declared.Plan.{Plan}
@@ -59,7 +59,7 @@ module _ {v : Bool} {a b : ℕ} (m : Labels) (i j : ℕ) (e : a ≡ copy_of (m.p
   unfolding apart
   apart_is h k = rw (← e, ← f, ← g, h, ← k)
 
-pub ruleset told-label = (bad_tag_is, bad_path_is, copy_is, apart_no, apart_is)
+pub ruleset told_label = (bad_tag_is, bad_path_is, copy_is, apart_no, apart_is)
 
 pub clear_from : (m : Labels) (t : Tag) (r from : ℕ) → Clear (bearer m t r from) from
 unfolding bearer
@@ -68,14 +68,14 @@ clear_from m t r from = record { none = λ k q. rw (lt-leb from k q) }
 -- ---- the search
 
 pub has_at : {x : Found} {b : Block} (n : ℕ) (v : ℕ → Option ℕ) (r : ℕ) → x ≡ found (find n v r) → x ≡ At b → true ≡ has n v r
-unfolding has is_some_lem
+unfolding has is_some
 has_at n v r e f = rw (at_some (find n v r) e f)
 
 pub has_nothing : {x : Found} (n : ℕ) (v : ℕ → Option ℕ) (r : ℕ) → x ≡ found (find n v r) → x ≡ Nothing → false ≡ has n v r
-unfolding has is_some_lem
+unfolding has is_some
 has_nothing n v r e f = rw (nothing_none (find n v r) e f)
 
-pub ruleset told-has = (has_at, has_nothing)
+pub ruleset told_has = (has_at, has_nothing)
 
 pub find_is : {x : Found} {g : ℕ} (n : ℕ) (v : ℕ → Option ℕ) (p : Plan) (k : ℕ) → x ≡ found (find n v (k * 4 + g)) → g ≡ generation_at p k
     → x ≡ found (find n v (log_r k (generation_at p k)))
@@ -140,7 +140,7 @@ module _ {p : ℕ} (n : ℕ) (m : Labels) (t : Tag) (i : ℕ) (e : p ≡ m.path 
     pub dropped_is : {c : Bool} → v ≡ dropped q (p / 4) → v ≡ true → c ≡ counts n m t i → c ≡ test (dropped q) (view n m t i)
     dropped_is f h k = view_passes n m t i its_r (dropped q) (sym f ∙ h) k
 
-pub ruleset told-log = (generation_other, generation_same, lower_other, lower_high, lower_off, lower_new, stray_held, stray_is, dropped_not, dropped_is, not-true, not-false)
+pub ruleset told_log = (generation_other, generation_same, lower_other, lower_high, lower_off, lower_new, stray_held, stray_is, dropped_not, dropped_is, not-true, not-false)
 
 -- ---- tests on the plan
 

@@ -1,5 +1,7 @@
 // Refusals 1 to 6, and the log as the labels plan it. Of the contents only the length is looked at. Each question about one place is
 // a function of its own, so the scans are bare.
+#![tactic(auto)]
+
 ghost use Rattle.std.specs.Prelude.{◌≡◌, ◌+◌, ◌*◌, ◌≤◌, ◌<◌, min, length};
 ghost use Rattle.base.specs.Choice.{test};
 ghost use Rattle.base.specs.Scan.{first};
@@ -589,7 +591,7 @@ pub fn is_dropped(tags: &[u8], paths: &[u64], p: Plan, b: Block) -> bool
 
 // ---- all of it
 
-#[derive(Drop)]
+#[derive(Clone, Copy)]
 pub enum Selected {
     Refused(Refusal),
     Planned(Plan),

@@ -28,8 +28,8 @@ use Rattle.label.specs.Search.{found}
 use Rattle.label.specs.declared.Found.{Found}
 use Rattle.label.specs.declared.Found.TheVariants.{At, Nothing}
 use Rattle.label.proofs.Answered.{nothing_none, at_some}
-use Rattle.log.specs.Cursor.{Ready}
-use Rattle.log.proofs.Sizes.{Sizes, sizes, block_in, block_size_high, contents_low}
+use Rattle.flash_log.specs.Cursor.{Ready}
+use Rattle.flash_log.proofs.Sizes.{Sizes, sizes, block_in, block_size_high, contents_low}
 use Rattle.read.specs.Pieces.{bare, place_at, in_block, stretch}
 use Rattle.read.proofs.Stretch.{stretch_part, stretch_zeros}
 

@@ -10,7 +10,7 @@ use lib.ListN.{length, take, drop, length-append, length-drop}
 use lib.Seq.{length-take-le, drop-drop, drop-length, take_at, drop_at}
 use Rattle.meaning.specs.declared.Geometry.{Geometry}
 use Rattle.meaning.specs.Flash.{Lent, block_size, fits}
-use Rattle.log.proofs.Sizes.{sizes, block_size_high}
+use Rattle.flash_log.proofs.Sizes.{sizes, block_size_high}
 use Rattle.read.specs.Pieces.{bare, in_block, stretch}
 use Rattle.read.proofs.Stretch.{stretch_length, stretch_add}
 

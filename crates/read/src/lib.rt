@@ -1,5 +1,7 @@
 // The bytes of a file, run by run: first zeros, then each extent's run over them. The extents are rows, sorted and disjoint, so the
 // first run is found by halves, and a block is looked for once a piece, never once a byte.
+#![tactic(auto)]
+
 ghost use Rattle.std.specs.Prelude.{◌≡◌, map, ◌+◌, ◌-◌, ◌*◌, ◌%◌, ◌^◌, ◌≤◌, ◌<◌, min, length, replicate};
 ghost use Rattle.label.specs.Search.{found};
 ghost use Rattle.meaning.specs.Flash.{block_size, image_of, labels_of};
@@ -8,7 +10,7 @@ ghost use Rattle.meaning.specs.Replay.{spot as the_spot};
 ghost use Rattle.meaning.specs.Services.{copied};
 ghost use Rattle.plan.specs.Select.{lent};
 ghost use Rattle.extent.specs.Rows.{extent_of, Sound, Within};
-ghost use Rattle.log.specs.Cursor.{Ready};
+ghost use Rattle.flash_log.specs.Cursor.{Ready};
 ghost use Rattle.read.specs.Pieces.{bare as the_bare, drawn, in_block, larger as the_larger, place_at, stretch};
 
 use label::Found;

@@ -1,6 +1,6 @@
 -- The list of steps as it grows.
 use Prim.Native.Nat.{ℕ, ◌+◌, ◌*◌, ◌-◌, ◌<◌}
-use mathlib.Core.Path.{◌≡◌, refl, sym, ap, ap₂, ◌∙◌}
+use mathlib.Core.Path.{◌≡◌, sym, ap, ◌∙◌}
 use mathlib.Core.Bool.{Bool, true, false, cond}
 use mathlib.Core.List.{List, [], ◌∷◌, ◌++◌, map, map-append, append_assoc, append-nil}
 use native.Mathlib.Omega.{arith}
@@ -12,8 +12,7 @@ use Rattle.meaning.specs.declared.Block.{Block}
 use Rattle.meaning.specs.declared.Geometry.{Geometry}
 use Rattle.meaning.specs.declared.Step.{Step}
 use Rattle.meaning.specs.declared.Step.TheVariants.{Erase, PageWrite, LabelWrite}
-use Rattle.meaning.specs.declared.Tag.TheVariants.{Data}
-use Rattle.meaning.specs.Flash.{Lent, Labels, blank, block_size, begins, byte_of, copy_of, image_of, labels_of, path_of, successor}
+use Rattle.meaning.specs.Flash.{blank, block_size, begins, byte_of, copy_of, image_of, labels_of, path_of, successor}
 use Rattle.meaning.specs.Services.{cleared, renewed_path, writable}
 use Rattle.plan.specs.Select.{lent}
 use Rattle.used.specs.Bits.{has_page}

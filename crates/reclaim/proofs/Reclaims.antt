@@ -1,14 +1,14 @@
 -- The reclaim of document 01 by what a mount shows, and what its list leaves.
 use Prim.Native.Nat.{ℕ, ◌≤◌, ◌<◌}
-use mathlib.Core.Path.{◌≡◌, refl, sym, ap, ap₂, subst, ◌∙◌}
-use mathlib.Core.Bool.{Bool, true, false}
+use mathlib.Core.Path.{◌≡◌, refl, sym, ap, subst, ◌∙◌}
+use mathlib.Core.Bool.{true}
 use mathlib.Core.Option.{Option, none, some}
-use mathlib.Core.List.{List, [], ◌∷◌, map}
+use mathlib.Core.List.{List, []}
 use native.Mathlib.Omega.{arith}
-use lib.Dec.{T, eqb, eqb→eq}
+use lib.Dec.{T, eqb→eq}
 use lib.ListN.{length, get_or, take}
-use Rattle.base.specs.Choice.{if_less, if_true, on_some, test}
-use Rattle.base.specs.Scan.{first, places}
+use Rattle.base.specs.Choice.{if_less, on_some, test}
+use Rattle.base.specs.Scan.{places}
 use Rattle.base.proofs.Scans.{first_some}
 use Rattle.base.proofs.Choices.{all_true}
 use Rattle.base.proofs.Tests.{zero_one}
@@ -23,13 +23,13 @@ use Rattle.meaning.specs.declared.Tag.TheVariants.{Data}
 use Rattle.meaning.specs.Answer.{Answer, ok, no, and_then, number}
 use Rattle.meaning.specs.Flash.{Lent, Image, Labels, fits, image_of, labels_of}
 use Rattle.meaning.specs.Labels.{find, find_data, is, view}
-use Rattle.meaning.specs.Mount.{Mounted, erase_list, mount_of, used_pages}
+use Rattle.meaning.specs.Mount.{Mounted, mount_of, used_pages}
 use Rattle.meaning.specs.Services.{free_blocks, leaves, lowest_free, reclaim, reclaim_on, reclaim_steps}
 use Rattle.demand.proofs.Demand.{reclaim_runs}
 use Rattle.label.specs.declared.Found.{Found}
 use Rattle.label.specs.declared.Found.TheVariants.{At, Nothing}
 use Rattle.label.specs.Search.{found}
-use Rattle.log.proofs.Sizes.{sizes}
+use Rattle.flash_log.proofs.Sizes.{sizes}
 use Rattle.replay.specs.declared.Said.{Said}
 use Rattle.replay.specs.declared.Said.TheVariants.{Whole, Refused}
 use Rattle.replay.specs.Replay.{answer_by}

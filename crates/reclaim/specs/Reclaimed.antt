@@ -1,5 +1,5 @@
 -- The answer of a reclaim, as document 01 has it.
-use Rattle.std.specs.Prelude.{ℕ, ◌≤◌, ◌≡◌, Bool, List, [], ◌∷◌, ◌++◌, map, length, get_or, take}
+use Rattle.std.specs.Prelude.{ℕ, ◌≤◌, ◌≡◌, List, [], ◌∷◌, ◌++◌, map, length, get_or, take}
 use Rattle.base.specs.Choice.{if_less, on_some}
 use Rattle.base.specs.Scan.{places}
 use Rattle.meaning.specs.declared.Geometry.{Geometry}

@@ -1,4 +1,6 @@
 // Reclaim: one data block written anew without its dead pages. The list of steps is whole before the first of them is done.
+#![tactic(auto)]
+
 ghost use Rattle.std.specs.Prelude.{◌≡◌, true, [], ◌∷◌, ◌++◌, map, ◌+◌, ◌*◌, ◌≤◌, ◌<◌, length, get_or};
 ghost use Rattle.base.specs.Scan.{places};
 ghost use Rattle.meaning.specs.declared.Step.TheVariants.{PageWrite};
@@ -15,20 +17,20 @@ use meaning::{Block, Geometry, Number, Refusal, Step, Tag};
 use replay::Said;
 
 /// A step in its place in a list.
-#[derive(Drop)]
+#[derive(Clone, Copy)]
 pub struct Listed {
     pub step: Step,
 }
 
 /// The first `count` places are the list: at most an erase, 32 pages, the label and an erase.
-#[derive(Drop)]
+#[derive(Clone, Copy)]
 pub struct Steps {
     pub steps: [Listed; 35],
     pub count: usize,
 }
 
 /// After a refusal the list is empty.
-#[derive(Drop)]
+#[derive(Clone, Copy)]
 pub struct Reclaimed {
     pub list: Steps,
     pub said: Said,

@@ -1,25 +1,24 @@
 -- The tree and its rows stay in order: a record changed, a file less, a file more.
-use Prim.Native.Nat.{ℕ, zero, suc, ◌+◌, ◌-◌, ◌<◌, ◌≤◌, ◌^◌, zero-le}
+use Prim.Native.Nat.{ℕ, suc, ◌+◌, ◌<◌, ◌≤◌, ◌^◌, zero-le}
 use mathlib.Core.Path.{◌≡◌, refl, sym, ap, subst, ◌∙◌}
 use mathlib.Core.Logic.{◌≢◌, ⊎_elim}
 use mathlib.Core.List.{List, [], ◌∷◌, ◌++◌, map}
 use native.Mathlib.Omega.{arith}
-use native.Mathlib.Numerals.{add-one}
 use lib.ListN.{length, take, drop, set, get_or, take-append-drop, length-set}
 use lib.Seq.{split_at, get_or-set_same, get_or-set_other, get_or-take, take-suc, length-take-le}
 use Rattle.base.specs.Member.{All, In}
 use Rattle.base.proofs.Tests.{eq_or}
 use Rattle.base.proofs.Choices.{eq_yes, eq_no}
-use Rattle.base.proofs.Lists.{all_map, in_right}
+use Rattle.base.proofs.Lists.{all_map}
 use Rattle.meaning.specs.declared.Extent.{Extent}
 use Rattle.meaning.specs.declared.Record.{Record}
-use Rattle.meaning.specs.Replay.{root, look, alter, insert, delete, others}
+use Rattle.meaning.specs.Replay.{root, others}
 use Rattle.tree.specs.declared.Tree.{Tree}
 use Rattle.tree.specs.declared.keys.Found.TheVariants.{At, Gap}
 use Rattle.tree.specs.Shift.{insert_at, remove_at}
 use Rattle.tree.specs.Tree.{no_record, record_at, live, files, path_of, Rise, Kept, Stands, put, inserted, removed}
-use Rattle.tree.proofs.Laws.{files_length, found_slot, found_path, found_alter, kept_put, live_removed, kept_remove, found_delete, free_slot, live_inserted, gap_insert, kept_insert, slot_there}
-use Rattle.runs.specs.Runs.{capacity, span_at, vacant, gather, Live, Parts, Placed, Owned, Rising}
+use Rattle.tree.proofs.Laws.{files_length, found_slot, found_path, kept_put, live_removed, kept_remove, free_slot, live_inserted, kept_insert, slot_there}
+use Rattle.runs.specs.Runs.{capacity, span_at, vacant, gather, Live, Placed, Owned, Rising}
 use Rattle.runs.proofs.Slots.{slot_in}
 use Rattle.runs.proofs.Laws.{gather_open, open_placed, open_owned, gather_close, close_placed, close_owned, start_placed, start_owned, start_gather}
 use Rattle.change.specs.declared.room.Room.{Room}

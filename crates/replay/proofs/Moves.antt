@@ -1,7 +1,7 @@
 -- A turn by what its message finds: the file of its path at a position, or a gap.
 use Prim.Native.Nat.{ℕ, ◌+◌, ◌-◌, ◌<◌, ◌≤◌, ◌^◌}
 use mathlib.Core.Path.{◌≡◌, refl, sym, ap, ap₂, subst, ◌∙◌}
-use mathlib.Core.Logic.{◌⊎◌, ⊎_elim}
+use mathlib.Core.Logic.{⊎_elim}
 use mathlib.Core.Bool.{Bool, true, false}
 use mathlib.Core.Option.{none, some}
 use mathlib.Core.List.{List, [], ◌∷◌}
@@ -19,8 +19,8 @@ use Rattle.meaning.specs.declared.Refusal.TheVariants as refused
 use Rattle.meaning.specs.Answer.{no}
 use Rattle.meaning.specs.Flash.{Lent, image_of}
 use Rattle.meaning.specs.Log.{log_of, replayed}
-use Rattle.meaning.specs.Replay.{bit31, is_dir, is_empty, look, alter, insert, delete, applies, judge, records_after, extents_after, lay, others, replay}
-use Rattle.log.specs.declared.Cursor.{Cursor}
+use Rattle.meaning.specs.Replay.{bit31, is_dir, is_empty, look, alter, insert, delete, applies, judge, extents_after, lay, others, replay}
+use Rattle.flash_log.specs.declared.Cursor.{Cursor}
 use Rattle.tree.specs.declared.Tree.{Tree}
 use Rattle.tree.specs.declared.keys.Found.{Found}
 use Rattle.tree.specs.declared.keys.Found.TheVariants as found

@@ -16,14 +16,14 @@ use Rattle.meaning.specs.Flash.{Lent, image_of}
 use Rattle.meaning.specs.Log.{Log, entry, log_of, replayed}
 use Rattle.meaning.specs.Replay as meaning
 use Rattle.meaning.specs.Replay.{root, judge, applies, records_after, extents_after, changed, passed_over, bare, replay}
-use Rattle.log.specs.declared.Cursor.{Cursor}
-use Rattle.log.specs.declared.Start.{Start}
-use Rattle.log.specs.declared.Start.TheVariants.{At, Nowhere}
-use Rattle.log.specs.declared.Turn.{Turn}
-use Rattle.log.specs.declared.Turn.TheVariants as turns
-use Rattle.log.specs.Turn.{onto}
-use Rattle.log.specs.Cursor.{Placed, Ranged, Ready, Says, Next, ahead, left, whole}
-use Rattle.log.proofs.Told.{swept_low, active_low}
+use Rattle.flash_log.specs.declared.Cursor.{Cursor}
+use Rattle.flash_log.specs.declared.Start.{Start}
+use Rattle.flash_log.specs.declared.Start.TheVariants.{At, Nowhere}
+use Rattle.flash_log.specs.declared.Turn.{Turn}
+use Rattle.flash_log.specs.declared.Turn.TheVariants as turns
+use Rattle.flash_log.specs.Turn.{onto}
+use Rattle.flash_log.specs.Cursor.{Placed, Ranged, Ready, Says, Next, ahead, left, whole}
+use Rattle.flash_log.proofs.Told.{swept_low, active_low}
 use Rattle.tree.specs.declared.Tree.{Tree}
 use Rattle.tree.specs.Tree.{live, files, Kept}
 use Rattle.tree.proofs.Laws.{files_length}

@@ -1,29 +1,31 @@
 // Replay: the log told to the tree, message by message. One loop owns the records and changes them in place; the extents stand
 // in rows that are lent. No message copies either.
+#![tactic(auto)]
+
 ghost use Rattle.std.specs.Prelude.{◌≡◌, ◌≤◌, length};
 ghost use Rattle.meaning.specs.Flash.{image_of};
 ghost use Rattle.meaning.specs.Log.{log_of, replayed};
 ghost use Rattle.meaning.specs.Replay.{replay as the_replay};
 ghost use Rattle.plan.specs.Select.{lent};
-ghost use Rattle.log.specs.Cursor.{Ready};
+ghost use Rattle.flash_log.specs.Cursor.{Ready};
 ghost use Rattle.runs.specs.Runs.{capacity};
 ghost use Rattle.replay.specs.Replay.{answer_of, WholeHeld};
 
 use change::{Edit, Made, Room};
-use log::{Start, Turn};
+use flash_log::{Start, Turn};
 use meaning::{Address, Geometry, Plan, Refusal};
 use tree::{Found, Tree};
 
 mod near;
 
 /// How the replay ended: at the log's end, or with 7, 8 or 9.
-#[derive(Drop)]
+#[derive(Clone, Copy)]
 pub enum Said {
     Whole,
     Refused(Refusal),
 }
 
-#[derive(Drop)]
+#[derive(Clone, Copy)]
 pub struct Replayed {
     pub tree: Tree,
     pub room: Room,
@@ -56,7 +58,7 @@ pub fn replay(
     // The slot of a path, by its low bits, and where a slot stood last: guesses that are tested before they are used.
     let mut near = [0u8; 1024];
     let mut place = [0u8; 256];
-    let Start::At(first) = log::first(g, tags, paths, contents, p) else {
+    let Start::At(first) = flash_log::first(g, tags, paths, contents, p) else {
         return Replayed {
             tree: t,
             room,
@@ -67,7 +69,7 @@ pub fn replay(
     };
     let mut c = first;
     loop {
-        match log::next(g, tags, paths, contents, p, c) {
+        match flash_log::next(g, tags, paths, contents, p, c) {
             Turn::End => {
                 return Replayed {
                     tree: t,

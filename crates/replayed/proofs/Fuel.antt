@@ -7,7 +7,6 @@ use Rattle.meaning.specs.declared.Geometry.{Geometry}
 use Rattle.meaning.specs.declared.Parsed.{Parsed}
 use Rattle.meaning.specs.declared.Parsed.TheVariants.{Malformed, End, Found}
 use Rattle.base.proofs.Choices.{less_no}
-use Rattle.meaning.specs.Answer.{address}
 use Rattle.meaning.specs.Message.{Page, parse}
 use Rattle.meaning.specs.Log.{empty, entry, embedded_limit, messages}
 use Rattle.replayed.proofs.Keeps.{Well, on_parsed}

@@ -1,6 +1,6 @@
 -- A step's line by the kind of the step, and a loop over bytes.
 use Prim.Native.Nat.{ℕ, ◌+◌, ◌≤◌, ◌<◌}
-use mathlib.Core.List.{List, [], ◌∷◌}
+use mathlib.Core.List.{List}
 use mathlib.Core.Path.{◌≡◌, refl}
 use lib.ListN.{length, get_or}
 use Rattle.meaning.specs.declared.Block.{Block}
@@ -27,7 +27,7 @@ module _ {l m : List ℕ} {at to : ℕ} (s : Step) where
   unfolding step_line
   step_label e w = rw e w
 
-pub ruleset step-ways = (step_erase, step_write, step_label)
+pub ruleset step_ways = (step_erase, step_write, step_label)
 
 -- ---- bytes
 
@@ -44,4 +44,4 @@ module _ (bytes l₀ : List ℕ) (at₀ : ℕ) where
     unfolding bytes_text
     bytes_on h p = left_on bytes_text bytes l₀ at₀ i w 0 _ refl h p
 
-pub ruleset bytes-ways = (bytes_start, bytes_done, bytes_on)
+pub ruleset bytes_ways = (bytes_start, bytes_done, bytes_on)

@@ -1,4 +1,6 @@
 // The lines of the program `room`, written into a lent buffer as those of the listing are.
+#![tactic(auto)]
+
 ghost use Rattle.listing.specs.Wrote.{Wrote};
 ghost use Rattle.report.specs.Lines.{block_line, bytes_text, data_line, erase_line, label_line, line_of, number_line, page_line, step_head, step_line, write_line};
 

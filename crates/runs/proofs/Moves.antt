@@ -13,7 +13,7 @@ use Rattle.base.proofs.Lists.{in_left, in_split}
 use Rattle.extent.specs.Rows.{extent_of, row_of, runs, Layable}
 use Rattle.extent.proofs.Rows.{runs_length}
 use Rattle.extent.proofs.Laws.{lay_adds}
-use Rattle.runs.specs.Runs.{capacity, first_of, many_of, room_of, span_at, with, rows_of, gather_rows, total, Distinct, Part, Apart, Parts, Placed, put, Open, laid_over, spans_laid, rows_laid, Stand, wanted, moved_to, Movable, closed, Roomed}
+use Rattle.runs.specs.Runs.{capacity, first_of, many_of, room_of, span_at, rows_of, gather_rows, total, Distinct, Part, Apart, Parts, Placed, put, Open, laid_over, spans_laid, rows_laid, Stand, wanted, moved_to, Movable, closed, Roomed}
 use Rattle.runs.proofs.Lists.{put_length, put_own, put_apart, put_back}
 use Rattle.runs.proofs.Slots.{Spot, spot_of, in_here, distinct_right, rows_append, own_length, rows_length, gather_length, gather_same, total_append, closed_span, closed_length, closed_at}
 

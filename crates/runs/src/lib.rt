@@ -1,6 +1,8 @@
 // The extents of all files. Rows stand by file, so that a run moves the rows of its own file alone: row s of spans says
 // where in the arena the rows of the file in slot s begin, how many they are, and for how many there is room. Rows of the
 // arena from bump on are free.
+#![tactic(auto)]
+
 ghost use Rattle.std.specs.Prelude.{◌≡◌, ◌+◌, ◌^◌, ◌≤◌, ◌<◌, length, take, drop, set};
 ghost use Rattle.base.specs.Member.{In};
 ghost use Rattle.runs.specs.Runs.{span_at, many_of, wanted, moved_to, vacant, with, rows_of, gather_rows, total, Distinct, Live, Placed, Open, spans_laid, rows_laid, put, Stand, Movable, closed, Roomed};

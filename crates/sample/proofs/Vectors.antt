@@ -1,7 +1,6 @@
 -- Outside dumps and what their listings show, by computation. Written by tools/vector-rows.py; dump k is the k-th of the vectors.
 use mathlib.Core.Path.{◌≡◌, refl}
-use mathlib.Core.List.{List, [], ◌∷◌}
-use Prim.Native.Nat.{ℕ}
+use mathlib.Core.List.{[], ◌∷◌}
 use Rattle.meaning.proofs.Shown.{Dump, line, lines}
 
 dump23 : Dump

@@ -1,9 +1,7 @@
 -- Demand 3 of the very list that a settle answered: r is its answer, l what was lent, l' what it left.
 use mathlib.Core.Path.{◌≡◌, sym, ap, subst, ◌∙◌}
-use mathlib.Core.List.{List}
 use lib.ListN.{take}
 use Rattle.meaning.specs.declared.Geometry.{Geometry}
-use Rattle.meaning.specs.declared.Step.{Step}
 use Rattle.meaning.specs.Answer.{Answer, ok}
 use Rattle.meaning.specs.Flash.{Lent}
 use Rattle.meaning.specs.Mount.{Mounted, mount_of}

@@ -1,6 +1,6 @@
 -- Steps done one by one are the list done in order, and what a settle answers and leaves.
 use Prim.Native.Nat.{ℕ, ◌+◌, ◌≤◌, ◌<◌}
-use mathlib.Core.Path.{◌≡◌, refl, sym, ap, subst, ◌∙◌}
+use mathlib.Core.Path.{◌≡◌, refl, sym, ap, ◌∙◌}
 use mathlib.Core.List.{List, [], ◌∷◌, ◌++◌, map, map-append}
 use native.Mathlib.Omega.{arith}
 use native.Mathlib.Numerals.{add-one}
@@ -10,8 +10,7 @@ use Rattle.base.proofs.Tests.{zero_one}
 use Rattle.meaning.specs.declared.Geometry.{Geometry}
 use Rattle.meaning.specs.declared.Refusal.{Refusal}
 use Rattle.meaning.specs.declared.Step.{Step}
-use Rattle.meaning.specs.declared.Step.TheVariants.{Erase}
-use Rattle.meaning.specs.Answer.{Answer, ok, no, and_then, block}
+use Rattle.meaning.specs.Answer.{Answer, ok, no, and_then}
 use Rattle.meaning.specs.Flash.{Lent}
 use Rattle.meaning.specs.Mount.{Mounted, mount_of}
 use Rattle.meaning.specs.Services.{do_step, do_steps, leaves, settle, settle_steps}

@@ -1,4 +1,6 @@
 // Settle: the erase list of a mount, fixed before the first block is erased, then done block by block.
+#![tactic(auto)]
+
 ghost use Rattle.std.specs.Prelude.{◌≡◌, take};
 ghost use Rattle.meaning.specs.Services.{leaves, settle as the_settle, settle_steps};
 ghost use Rattle.plan.specs.Select.{lent};

@@ -35,10 +35,10 @@ use Rattle.runs.proofs.Moves.{stand_of}
 use Rattle.runs.proofs.Laws.{gathered_runs}
 use Rattle.tree.specs.declared.Tree.{Tree}
 use Rattle.tree.specs.Tree.{live, files, record_at, Kept}
-use Rattle.log.specs.declared.insertion.Point.{Point}
-use Rattle.log.specs.Point.{point}
-use Rattle.log.specs.Cursor.{Ready}
-use Rattle.log.proofs.Sizes.{Sizes, sizes}
+use Rattle.flash_log.specs.declared.insertion.Point.{Point}
+use Rattle.flash_log.specs.Point.{point}
+use Rattle.flash_log.specs.Cursor.{Ready}
+use Rattle.flash_log.proofs.Sizes.{sizes}
 use Rattle.replay.specs.declared.Said.{Said}
 use Rattle.replay.specs.declared.Said.TheVariants.{Whole, Refused}
 use Rattle.replay.specs.declared.Replayed.{Replayed}

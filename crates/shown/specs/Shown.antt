@@ -11,8 +11,8 @@ use Rattle.meaning.specs.Replay.{replay}
 use Rattle.meaning.specs.Mount.{Mounted, absent, erase_list, shown}
 use Rattle.extent.specs.Rows.{extent_of, Within}
 use Rattle.tree.specs.Tree.{files}
-use Rattle.log.specs.declared.insertion.Point.{Point}
-use Rattle.log.specs.declared.insertion.Point.TheVariants.{At, Nowhere}
+use Rattle.flash_log.specs.declared.insertion.Point.{Point}
+use Rattle.flash_log.specs.declared.insertion.Point.TheVariants.{At, Nowhere}
 use Rattle.replay.specs.declared.Replayed.{Replayed}
 use Rattle.replay.specs.declared.Said.{Said}
 use Rattle.replay.specs.declared.Said.TheVariants.{Whole, Refused}

@@ -1,12 +1,14 @@
 // The mount: the labels, then the replay of the log, then the data blocks that live extents need.
+#![tactic(auto)]
+
 ghost use Rattle.std.specs.Prelude.{◌≡◌, ◌≤◌, length};
 ghost use Rattle.meaning.specs.Mount.{mount_of};
 ghost use Rattle.plan.specs.Select.{lent};
-ghost use Rattle.log.specs.Cursor.{Ready};
+ghost use Rattle.flash_log.specs.Cursor.{Ready};
 ghost use Rattle.shown.specs.Shown.{later, showing, Silent, Sized};
 ghost use Rattle.replay.specs.declared.Said.TheVariants.{Refused};
 
-use log::insertion::Point;
+use flash_log::insertion::Point;
 use meaning::{Geometry, Place, Plan, Record, Refusal};
 use plan::Selected;
 use replay::Said;
@@ -102,7 +104,7 @@ fn planned(
     }
     let used = used::used_bits(g, tags, paths, xs);
     let erase = used::erase_list(tags, paths, p, &used);
-    let insertion = log::insertion::insertion(g, tags, paths, contents, p);
+    let insertion = flash_log::insertion::insertion(g, tags, paths, contents, p);
     let mut records = blank();
     let mut k: usize = 0;
     while k < count {

@@ -1,4 +1,6 @@
 // One step of a settle or a reclaim, on the lent flash and labels. Nothing is written before the step is known to lie inside.
+#![tactic(auto)]
+
 ghost use Rattle.std.specs.Prelude.{◌≡◌, true, [], ◌+◌, ◌*◌, ◌≤◌, ◌<◌, length, set, replicate, ltb};
 ghost use Rattle.meaning.specs.declared.Step.TheVariants.{PageWrite};
 ghost use Rattle.meaning.specs.Flash.{block_size, fits, good_geometry};
@@ -9,7 +11,7 @@ ghost use Rattle.step.specs.Done.{answered, page_copied, stepped, written};
 use meaning::{Block, Geometry, Refusal, Step};
 
 /// Whether a step was done.
-#[derive(Drop)]
+#[derive(Clone, Copy)]
 pub enum Stepped {
     Done,
     Refused(Refusal),

@@ -43,9 +43,9 @@ pub →not_same_tag : (s t : Tag) → s ≢ t → T (not (same_tag s t))
 pub not_free : (Boot ≢ Free) × (Log ≢ Free) × (Data ≢ Free)
 not_free = (λ e. zero_one (cc), λ e. zero_one (cc), λ e. zero_one (cc))
 
-pub ruleset label-tests = (tests, same_tag→, not_same_tag)
+pub ruleset label_tests = (tests, same_tag→, not_same_tag)
 
-pub ruleset label-makes = (makes, →same_tag, →not_same_tag)
+pub ruleset label_makes = (makes, →same_tag, →not_same_tag)
 
 -- ---- copies
 
@@ -58,19 +58,19 @@ pub record Newer (m : Labels) (j i : ℕ) : Type 0 where
 
 pub same→ : (m : Labels) (i j : ℕ) → T (same_block m i j) → (m.tag i ≢ Free) × (m.tag j ≡ m.tag i) × (r_of (m.path j) ≡ r_of (m.path i))
 unfolding same_block
-same→ m i j t = search label-tests
+same→ m i j t = search label_tests
 
 pub →same : (m : Labels) (i j : ℕ) → m.tag i ≢ Free → m.tag j ≡ m.tag i → r_of (m.path j) ≡ r_of (m.path i) → T (same_block m i j)
 unfolding same_block
-→same m i j f e q = search label-makes
+→same m i j f e q = search label_makes
 
 pub newer→ : (m : Labels) (j i : ℕ) → T (newer m j i) → Newer m j i
 unfolding newer follows same_block
-newer→ m j i t = search label-tests
+newer→ m j i t = search label_tests
 
 pub →newer : (m : Labels) (j i : ℕ) → Newer m j i → T (newer m j i)
 unfolding newer follows same_block
-→newer m j i w = search label-makes
+→newer m j i w = search label_makes
 
 -- every two copies follow one another
 abbrev pub Clean : ℕ → Labels → Type 0
@@ -133,11 +133,11 @@ unfolding view counts
 counts→ n m t r i h =
     let s = is_provided (counts n m t i) _ r h in
     let b : T (ltb i n && same_tag (m.tag i) t && not (older n m i)) = s.0 in
-    record { below = search tests; tag = search label-tests; r = s.1; newest = T-not→ (older n m i) (search tests) }
+    record { below = search tests; tag = search label_tests; r = s.1; newest = T-not→ (older n m i) (search tests) }
 
 pub →counts : (n : ℕ) (m : Labels) (t : Tag) (r i : ℕ) → Counts n m t r i → T (is (view n m t i) r)
 unfolding view counts
-→counts n m t r i c = →is_provided (counts n m t i) _ r (search (label-makes, c.newest)) c.r
+→counts n m t r i c = →is_provided (counts n m t i) _ r (search (label_makes, c.newest)) c.r
 
 -- the one block that counts is found
 pub find_sole : (n : ℕ) (m : Labels) (t : Tag) (r i : ℕ) → Counts n m t r i → ((x : ℕ) → Counts n m t r x → x ≡ i) → find n (view n m t) r ≡ some i

@@ -6,7 +6,7 @@ use mathlib.Core.Option.{Option, none, some}
 use Prim.Native.Nat.{ℕ, zero, suc, ◌+◌, ◌%◌, ◌<◌}
 use native.Mathlib.Omega.{arith}
 use lib.Dec.{T, eqb, ltb, eqb→eq, eqb_refl, ltb→lt}
-use Rattle.base.specs.Choice.{if_true, is_some_lem, test, or_zero}
+use Rattle.base.specs.Choice.{if_true, is_some, test, or_zero}
 use Rattle.base.specs.Scan.{first}
 use Rattle.base.proofs.Tests.{T-not→, →T_not, T-ext, T-dec, and_l, and_i, or_l, or_r, or_cases, eqb_of, tests, makes}
 use Rattle.base.proofs.Scans.{any_intro, Found, any_elim, first_cong, first_some, first_none, first_has}
@@ -42,10 +42,10 @@ is_ext (some x) (some y) e = ap {B = Option ℕ} some (sym (eqb→eq y x (subst 
 
 -- the place that stands for r
 pub found : (n : ℕ) (v : ℕ → Option ℕ) (r : ℕ) → T (has n v r) → (or_zero (find n v r) < n) × T (is (v (or_zero (find n v r))) r)
-unfolding has find is_some_lem or_zero
+unfolding has find is_some or_zero
 found n v r t = go (first n (λ i. is (v i) r)) refl t
   where
-    go : (o : Option ℕ) → first n (λ i. is (v i) r) ≡ o → T (is_some_lem o) → (or_zero o < n) × T (is (v (or_zero o)) r)
+    go : (o : Option ℕ) → first n (λ i. is (v i) r) ≡ o → T (is_some o) → (or_zero o < n) × T (is (v (or_zero o)) r)
     go none e s = absurd s
     go (some i) e s = let f = first_some n _ i e in (f.0, f.1)
 
@@ -67,7 +67,7 @@ unfolding unbroken has
 unbroken_cong n v w g bound k zero e = refl
 unbroken_cong n v w g bound k (suc fuel) e =
     ap₂ (λ (b : Bool) (rest : ℕ). if_true b (suc rest) 0)
-    (and_cong (ltb k bound) _ _ (λ t. ap is_some_lem (e k (ltb→lt k bound t)))) (unbroken_cong n v w g bound (k + 1) fuel e)
+    (and_cong (ltb k bound) _ _ (λ t. ap is_some (e k (ltb→lt k bound t)))) (unbroken_cong n v w g bound (k + 1) fuel e)
 
 -- a count that is not 0 has its first block
 pub unbroken_first : (n : ℕ) (v : ℕ → Option ℕ) (g bound k fuel : ℕ) → unbroken n v g bound k fuel ≢ 0 → T (has n v (log_r k g))
@@ -257,7 +257,7 @@ module _ (n : ℕ) (v w : ℕ → Option ℕ) (good : T (bad_log n v (plan_of n 
 
   same_low : lowest_number n w g ≡ lowest_number n v g
   unfolding lowest_number has
-  same_low = ap or_zero (first_cong 4096 _ _ (λ k l. ap is_some_lem (find_active k)))
+  same_low = ap or_zero (first_cong 4096 _ _ (λ k l. ap is_some (find_active k)))
 
   pub same_plan : plan_of n w ≡ plan_of n v
   unfolding plan_of plan_from

@@ -1,14 +1,14 @@
 -- The label write of a reclaim: the copy with the used pages takes the old block's place.
 use mathlib.Core.Path.{◌≡◌, sym, ap, ◌∙◌, subst, subst₂, fun_ext}
 use mathlib.Core.Logic.{◌≢◌, ◌⊎◌, inl, inr, ⊎_elim}
-use mathlib.Core.Bool.{not, ◌||◌}
+use mathlib.Core.Bool.{◌||◌}
 use mathlib.Core.Option.{Option, some}
 use mathlib.Core.List.{List}
 use Prim.Native.Nat.{ℕ, ◌/◌, ◌^◌, ◌≤◌, ◌<◌}
 use native.Mathlib.Omega.{arith}
 use lib.ListN.{get_or}
 use lib.Dec.{T, ltb, leb, ltb→lt, leb→le}
-use Rattle.base.specs.Choice.{if_true, is_some_lem, on_some}
+use Rattle.base.specs.Choice.{if_true, is_some, on_some}
 use Rattle.base.specs.Member.{All}
 use Rattle.base.proofs.Tests.{T-not→, T-ext, or_l, or_r, or_cases, eq_or, zero_one, tests, makes}
 use Rattle.base.proofs.Scans.{any_intro, Found, any_elim}
@@ -259,8 +259,8 @@ module _ (g : Geometry) (m : Image) (xs : List Extent) (d old new : ℕ) (m' : I
   unfolding data_bytes bytes_at on_some
   data_new o h u = rw (find_new, find_old) (w.pages o h u)
 
-  there_new : is_some_lem (find_data n l' d) ≡ is_some_lem (find_data n l d)
-  unfolding is_some_lem
+  there_new : is_some (find_data n l' d) ≡ is_some (find_data n l d)
+  unfolding is_some
   there_new = rw (find_new, find_old)
 
   pub same_relabel : Same g m m' xs
@@ -268,8 +268,8 @@ module _ (g : Geometry) (m : Image) (xs : List Extent) (d old new : ℕ) (m' : I
     plan = plan_kept;
     places = place_kept;
     log = log_kept;
-    there = λ r ni. ⊎_elim (λ (e : r ≡ d). subst (λ (x : ℕ). is_some_lem (find_data n l' x) ≡ is_some_lem (find_data n l x)) (sym e) there_new)
-        (λ (ne : r ≢ d). ap is_some_lem (find_else r ne)) (eq_or r d);
+    there = λ r ni. ⊎_elim (λ (e : r ≡ d). subst (λ (x : ℕ). is_some (find_data n l' x) ≡ is_some (find_data n l x)) (sym e) there_new)
+        (λ (ne : r ≢ d). ap is_some (find_else r ne)) (eq_or r d);
     byte = λ r o h u. ⊎_elim
         (λ (e : r ≡ d). subst (λ (x : ℕ). get_or (data_bytes g m' x) o 0 ≡ get_or (data_bytes g m x) o 0) (sym e)
         (data_new o h (subst (λ (x : ℕ). T (used g xs x (o / g.size))) e u)))

@@ -10,7 +10,7 @@ use native.Mathlib.Omega.{arith}
 use native.Mathlib.Nat.{div-add-mod', mod-lt, div-lt_iff_lt-mul, mul_comm, mul-pos}
 use lib.ListN.{get_or}
 use lib.Dec.{T, eqb, ltb, leb, lt→ltb, leb→le, le→leb}
-use Rattle.base.specs.Choice.{if_true, is_some_lem, on_some, test, or_else, provided, or_zero}
+use Rattle.base.specs.Choice.{if_true, is_some, on_some, test, or_else, provided, or_zero}
 use Rattle.base.specs.Scan.{any, first, places}
 use Rattle.base.specs.Member.{All, In}
 use Rattle.base.proofs.Tests.{T-yes, T-not→, →T_not, T-dec, not_both, and_i, or_r, or_cases, lt_or, zero_one, tests, makes}
@@ -185,7 +185,7 @@ pub record Same (g : Geometry) (m m' : Image) (xs : List Extent) : Type 0 where
   pub plan : log_plan g.blocks m'.labels ≡ log_plan g.blocks m.labels
   pub places : (k : ℕ) → find_log g.blocks m'.labels k ≡ find_log g.blocks m.labels k
   pub log : (k : ℕ) → log_bytes g m' k ≡ log_bytes g m k
-  pub there : (d : ℕ) → (T (idle g xs d) → ⊥) → is_some_lem (find_data g.blocks m'.labels d) ≡ is_some_lem (find_data g.blocks m.labels d)
+  pub there : (d : ℕ) → (T (idle g xs d) → ⊥) → is_some (find_data g.blocks m'.labels d) ≡ is_some (find_data g.blocks m.labels d)
   pub byte : (d o : ℕ) → o < block_size g → T (used g xs d (o / g.size)) → get_or (data_bytes g m' d) o 0 ≡ get_or (data_bytes g m d) o 0
 
 else_cong : {A : Type 0} (b : Bool) {x y x' y' : A} → x ≡ x' → (b ≡ false → y ≡ y') → if_true b x y ≡ if_true b x' y'
@@ -391,7 +391,7 @@ module _ (g : Geometry) (m : Image) (xs : List Extent) (E : ℕ → Bool) (m' : 
     plan = plan_same;
     places = place_same;
     log = log_same;
-    there = λ k ni. ap is_some_lem (find_same k ni);
+    there = λ k ni. ap is_some (find_same k ni);
     byte = λ k o h u. ap (λ (x : List ℕ). get_or x o 0) (data_same k (not_idle g xs k o sz h u));
   }
 

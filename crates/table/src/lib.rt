@@ -1,5 +1,7 @@
 // The table of records that a caller lends: "Records .. stand in the table by ascending path; places past the last record are
-// unchanged." Structs behind a lent slice are proved by hand, so the functions here are thin: they store, and decide nothing.
+// unchanged." The functions here are thin: they store, and decide nothing.
+#![tactic(auto)]
+
 ghost use Rattle.std.specs.Prelude.{◌≡◌, ◌≤◌, length, set, take};
 ghost use Rattle.meaning.specs.Mount.{filled};
 

@@ -21,7 +21,7 @@ module _ (s : List ℕ) (at stop : ℕ) {r : Field} where
   number_out zero i n e h p = p ∙ e
   number_out (suc left) i n e h p = absurd (not-suc-le-zero h)
 
-pub ruleset number-ways = (ways, number_turn, number_out)
+pub ruleset number_ways = (ways, number_turn, number_out)
 
 module _ (s : List ℕ) (at size : ℕ) {r : Field} where
   pub run_turn : (left i n : ℕ) → run_from s left i n ≡ run_at s at size → 0 < left → r ≡ run_step s i n (run_from s (left - 1)) → r ≡ run_at s at size
@@ -34,4 +34,4 @@ module _ (s : List ℕ) (at size : ℕ) {r : Field} where
   run_out zero i n e h p = p ∙ e
   run_out (suc left) i n e h p = absurd (not-suc-le-zero h)
 
-pub ruleset run-ways = (ways, run_turn, run_out)
+pub ruleset run_ways = (ways, run_turn, run_out)

@@ -1,5 +1,7 @@
 // The pieces of a line of text: a head, a number, bytes in hex. Each takes the byte that ends it, so a line is read piece by piece.
 // Every function is total: past the end of the text stands a newline, so a last line without one needs no case of its own.
+#![tactic(auto)]
+
 ghost use Rattle.std.specs.Prelude.{◌≡◌, ◌≤◌};
 ghost use Rattle.text.specs.Piece.{byte_at, hex_at, hex_digit, head_at, number_at, past_at, peek_at, run_at};
 
@@ -8,14 +10,14 @@ pub const TAB: u8 = 9;
 pub const NEWLINE: u8 = 10;
 
 /// A number, and the place past the byte that ends it.
-#[derive(Drop)]
+#[derive(Clone, Copy)]
 pub enum Field {
     Read { value: u64, next: usize },
     Bad,
 }
 
 /// The byte that two hex digits spell, and the place past the byte that ends them.
-#[derive(Drop)]
+#[derive(Clone, Copy)]
 pub enum Byte {
     Two { value: u8, next: usize },
     Not,

@@ -4,7 +4,7 @@ use mathlib.Core.Bool.{Bool, true, false, not, xor, beq}
 use mathlib.Core.Option.{Option, none, some}
 use mathlib.Core.List.{List}
 use Prim.Native.Nat.{ℕ}
-use Rattle.base.specs.Choice.{if_true, on_some, is_some_lem}
+use Rattle.base.specs.Choice.{if_true, on_some, is_some}
 use Rattle.meaning.specs.declared.Place.{Place}
 use Rattle.meaning.specs.declared.Record.{Record}
 use Rattle.meaning.specs.declared.Extent.{Extent}
@@ -33,14 +33,14 @@ on_absent : {A B : Type 0} (o : Option A) (z : B) (k : A → B) → o ≡ none �
 unfolding on_some
 on_absent o z k e = rw e
 
-taken_so : (o : Option Record) → on_some o Applied (λ f. PathTaken) ≡ if_true (is_some_lem o) PathTaken Applied
-unfolding on_some is_some_lem if_true
+taken_so : (o : Option Record) → on_some o Applied (λ f. PathTaken) ≡ if_true (is_some o) PathTaken Applied
+unfolding on_some is_some if_true
 taken_so none = refl
 taken_so (some f) = refl
 
 module _ (fs : List Record) where
   module _ (parent perm path mtime cvers : ℕ) (name uid gid : Place) where
-    pub created_there : (d : Record) → look parent fs ≡ some d → judge (Create parent perm path mtime cvers name uid gid) fs ≡ judge_create d (is_some_lem (look path fs))
+    pub created_there : (d : Record) → look parent fs ≡ some d → judge (Create parent perm path mtime cvers name uid gid) fs ≡ judge_create d (is_some (look path fs))
     unfolding judge judge_create
     created_there d e = on_there _ d _ _ e ∙ rw (taken_so (look path fs))
 

@@ -5,7 +5,7 @@ ghost use Rattle.tree.specs.Shift.{opened, closed};
 ghost use Rattle.tree.specs.Tree.{Rising, Stands};
 
 /// Where a path stands among the keys, or where it would.
-#[derive(Drop)]
+#[derive(Clone, Copy)]
 pub enum Found {
     At(usize),
     Gap(usize),

@@ -1,5 +1,7 @@
 // The records that replay keeps, by path. A record keeps its slot; only the paths and the numbers of the slots are shifted, so that a
 // create or a remove costs little, and whoever owns a Tree changes it in place, a field at a time.
+#![tactic(auto)]
+
 ghost use Rattle.std.specs.Prelude.{◌≡◌, [], ◌∷◌};
 ghost use Rattle.meaning.specs.Replay.{root, is_empty};
 ghost use Rattle.tree.specs.Tree.{Kept, files, Numbered};
@@ -16,7 +18,7 @@ pub use field::{
 pub use judge::{applies, judge_create, judge_remove, judge_truncate, judge_write, judge_wstat};
 pub use keys::{Found, close_key, close_slot, find, find_near, open_key, open_slot};
 
-#[derive(Drop)]
+#[derive(Clone, Copy)]
 pub struct Tree {
     /// Each in a slot of its own.
     pub records: [Record; 256],

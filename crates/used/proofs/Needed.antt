@@ -11,7 +11,7 @@ use lib.ListN.{length, length-replicate, length-set, get_or, get_or-replicate, s
 use lib.Seq.{drop-cons, get_or-set_other}
 use lib.Dec.{T}
 use borrow.Author.Tests.{le-leb, lt-leb, not-true, not-false}
-use Rattle.base.specs.Choice.{is_some_lem, or_else, provided}
+use Rattle.base.specs.Choice.{is_some, or_else, provided}
 use Rattle.base.proofs.Tests.{T-yes, eq_or, not_both, tests}
 use Rattle.meaning.specs.declared.Geometry.{Geometry}
 use Rattle.meaning.specs.declared.Extent.{Extent}
@@ -75,14 +75,14 @@ module _ {v : Bool} (n : ℕ) (g : Geometry) (m : Labels) (e : Extent) (d : v �
         omega (arith, div-le_self e.address s)
 
     pub lacks_not : {x : Found} {b : Block} → x ≡ found (find_data n m k) → x ≡ At b → false ≡ lacks (over n g) m e
-    unfolding lacks is_some_lem block_size
+    unfolding lacks is_some block_size
     lacks_not f r = rw (← d, q, ← number (block_size g) refl, at_some _ f r)
 
     pub lacks_all : {x : Found} → x ≡ found (find_data n m k) → x ≡ Nothing → true ≡ lacks (over n g) m e
-    unfolding lacks is_some_lem block_size
+    unfolding lacks is_some block_size
     lacks_all f r = rw (← d, q, ← number (block_size g) refl, nothing_none _ f r)
 
-    pub lacks_seen : is_some_lem (find_data n m k) ≡ true → false ≡ lacks (over n g) m e
+    pub lacks_seen : is_some (find_data n m k) ≡ true → false ≡ lacks (over n g) m e
     unfolding lacks block_size
     lacks_seen t = rw (← d, q, ← number (block_size g) refl, t)
 
@@ -94,15 +94,15 @@ pub seen_none : (n : ℕ) (m : Labels) → Seen n m (replicate 4096 false)
 seen_none n m = (length-replicate 4096 false, λ d h e. absurd (not_both (get_or (replicate 4096 false) d false) (get_or-replicate 4096 d false false h) (T-yes _ e)))
 
 module _ (n : ℕ) (m : Labels) (seen : List Bool) (z : Seen n m seen) where
-  pub seen_more : (d : ℕ) → is_some_lem (find_data n m d) ≡ true → Seen n m (set seen d true)
+  pub seen_more : (d : ℕ) → is_some (find_data n m d) ≡ true → Seen n m (set seen d true)
   seen_more d t = (
     length-set seen d true ∙ z.0,
     λ k h e. ⊎_elim (λ (q : k ≡ d). rw q t) (λ (q : k ≢ d). z.1 k h (sym (get_or-set_other seen d k true false q) ∙ e)) (eq_or k d),
   )
 
 -- the number that was found is there
-pub is_there : {x : Found} {b : Block} (n : ℕ) (m : Labels) (k : ℕ) → x ≡ found (find_data n m k) → x ≡ At b → is_some_lem (find_data n m k) ≡ true
-unfolding is_some_lem
+pub is_there : {x : Found} {b : Block} (n : ℕ) (m : Labels) (k : ℕ) → x ≡ found (find_data n m k) → x ≡ At b → is_some (find_data n m k) ≡ true
+unfolding is_some
 is_there n m k f r = rw (at_some _ f r)
 
 -- ---- one extent after another: what is left decides

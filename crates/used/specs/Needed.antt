@@ -1,7 +1,7 @@
 -- The data blocks that live extents need.
 use Rattle.std.specs.Prelude.{ℕ, ◌<◌, ◌≡◌, Bool, true, false, List, length, get_or}
 use Rattle.std.proofs.Math.Option.{Option, none, some}
-use Rattle.base.specs.Choice.{is_some_lem}
+use Rattle.base.specs.Choice.{is_some}
 use Rattle.meaning.specs.Flash.{Labels}
 use Rattle.meaning.specs.Labels.{find_data}
 use Rattle.meaning.specs.declared.Geometry.{Geometry}
@@ -16,7 +16,7 @@ over n g = record { size = g.size; pages = g.pages; blocks = n }
 
 -- a mark for each number: one that is set is that of a data block that is there
 abbrev pub Seen : ℕ → Labels → List Bool → Type 0
-Seen n m seen = (length seen ≡ 4096) × ((d : ℕ) → d < 4096 → get_or seen d false ≡ true → is_some_lem (find_data n m d) ≡ true)
+Seen n m seen = (length seen ≡ 4096) × ((d : ℕ) → d < 4096 → get_or seen d false ≡ true → is_some (find_data n m d) ≡ true)
 
 -- the refusal that an answer stands for. DATA: "lowest path of a file with one"
 unfoldable pub refusal_of : Missing → Option Refusal

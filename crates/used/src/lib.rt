@@ -1,5 +1,7 @@
 // What a mount shows besides the tree: which data is absent, which pages are used, and which blocks can be erased. Extents are
 // rows [path, offset, count, address], as the crate extent keeps them.
+#![tactic(auto)]
+
 ghost use Rattle.std.specs.Prelude.{◌≡◌, false, map, ◌+◌, ◌-◌, ◌/◌, ◌<◌, ◌≤◌, ◌^◌, min, length, get_or};
 ghost use Rattle.base.specs.Choice.{if_true};
 ghost use Rattle.meaning.specs.Flash.{labels_of};
@@ -32,7 +34,7 @@ fn in_data(row: [u32; 4]) -> bool
 // ---- the data that is needed
 
 /// The path of a file whose data is absent, or none.
-#[derive(Drop)]
+#[derive(Clone, Copy)]
 pub enum Missing {
     Nothing,
     Path(u32),
@@ -83,7 +85,7 @@ pub fn absent(g: Geometry, tags: &[u8], paths: &[u64], xs: &[[u32; 4]]) -> Missi
 // ---- used pages
 
 // The pages of a block from one up to another.
-#[derive(Drop)]
+#[derive(Clone, Copy)]
 struct Pages {
     from: usize,
     past: usize,
@@ -250,6 +252,7 @@ fn mask_at(masks: &[u32], i: usize) -> u32
 }
 
 // "Data blocks with no used page". An older copy is not asked.
+#[tactic(auto, using(crate::proofs::Erasable::unused_no))]
 fn is_unused(tags: &[u8], paths: &[u64], mask: u32, b: Block) -> bool
     requires { (b.0 < length tags.now) × (false ≡ older (length tags.now) (labels_of tags.now paths.now) b.0) }
     ensures { result ≡ unused (length tags.now) (labels_of tags.now paths.now) mask b.0 }

@@ -1,0 +1,10 @@
+use mathlib.Core.Path.{ap}
+use Rattle.change.specs.declared.edit.Edit.TheVariants.{Truncated}
+use Rattle.change.proofs.Edits.{edit_yes, edit_no}
+use Rattle.change.proofs.edit.truncation.Goals as goal
+
+pub returns-then-applies : goal.returns-then-applies
+returns-then-applies c = edit_yes _ _ c.judge_truncate.ensures c.applies.ensures c.if-applies.true (ap (Truncated) c.truncated-q.ensures)
+
+pub returns : goal.returns
+returns c = edit_no _ _ c.judge_truncate.ensures c.applies.ensures c.if-applies.false

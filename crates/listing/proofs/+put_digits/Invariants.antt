@@ -1,0 +1,5 @@
+-- The digits that are left.
+use Rattle.listing.proofs.+put_digits.Given as goal
+
+abbrev pub decreases-put_digits : goal.decreases-put_digits
+decreases-put_digits l = l.left

@@ -1,0 +1,5 @@
+use Rattle.plan.proofs.Told.{told_label}
+use Rattle.plan.proofs.bad_path_at.Goals as goal
+
+pub returns : goal.returns
+returns c = search told_label

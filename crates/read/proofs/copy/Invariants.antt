@@ -1,0 +1,17 @@
+use mathlib.Core.Path.{◌≡◌}
+use mathlib.Core.List.{◌++◌, map}
+use Prim.Native.Nat.{◌-◌}
+use lib.ListN.{take, drop}
+use Rattle.extent.specs.Rows.{extent_of}
+use Rattle.meaning.specs.Flash.{image_of}
+use Rattle.meaning.specs.Mount.{file_byte}
+use Rattle.plan.specs.Select.{lent}
+use Rattle.read.specs.Pieces.{stretch}
+use Rattle.read.proofs.copy.Given as goal
+
+abbrev pub invariant-loop-j : goal.invariant-loop-j
+invariant-loop-j l = l.buffer ≡ stretch (file_byte l.g (image_of l.g (lent l.tags l.paths l.contents))
+    (map extent_of (take l.j l.xs)) l.path) l.x l.n ++ drop l.n l.initial.buffer
+
+abbrev pub decreases-loop-j : goal.decreases-loop-j
+decreases-loop-j l = l.last - l.j
