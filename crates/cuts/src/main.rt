@@ -7,6 +7,8 @@
 //   I image number steps cuts differ     that reclaim with its label write before its pages: how many did not show the same
 //   T cuts same cuts differ              all lines S and R, and all lines I
 // The images are few and small: the first 81,920 bytes are read.
+#![tactic(auto)]
+
 ghost use Rattle.std.specs.Prelude.{◌≡◌, ◌<◌, ◌≤◌, length};
 ghost use Rattle.reclaim.specs.Reclaimed.{Listing};
 
@@ -15,11 +17,12 @@ use dump::Dump;
 use label::Found;
 use meaning::{Geometry, Number, Step};
 use reclaim::Steps;
+use std::io;
 
 // "numbers are at most 4095"
 const NUMBERS: u32 = 4096;
 
-#[derive(Drop)]
+#[derive(Clone, Copy)]
 struct Totals {
     proper: Tried,
     impostors: Tried,
@@ -49,43 +52,52 @@ fn with_impostor(all: Totals, t: Tried) -> Totals {
 
 // ---- lines
 
-fn write(line: &[u8], n: usize) {
+fn write(rt: &impl Print, line: &[u8], n: usize) -> io::Result<()> {
     if n <= line.len() {
-        io::write_all(1, &line[0..n]);
+        rt.write_all(&line[0..n])?;
     }
+    Ok(())
 }
 
 // The end of a line: two counts.
-fn write_counts(line: &mut [u8], at: usize, cuts: u64, n: u64) {
+fn write_counts(rt: &impl Print, line: &mut [u8], at: usize, cuts: u64, n: u64) -> io::Result<()> {
     let a = listing::put_field(line, at, cuts);
     let b = listing::put_field(line, a, n);
     let end = listing::put_byte(line, b, text::NEWLINE);
-    write(line, end);
+    write(rt, line, end)
 }
 
-fn write_settle(image: u64, steps: usize, t: Tried) {
+fn write_settle(rt: &impl Print, image: u64, steps: usize, t: Tried) -> io::Result<()> {
     let mut line = [0u8; 128];
     let a = listing::put_byte(&mut line, 0, b'S');
     let b = listing::put_field(&mut line, a, image);
     let c = listing::put_field(&mut line, b, steps as u64);
-    write_counts(&mut line, c, t.cuts, t.same);
+    write_counts(rt, &mut line, c, t.cuts, t.same)
 }
 
-fn write_reclaim(letter: u8, image: u64, number: Number, steps: usize, cuts: u64, n: u64) {
+fn write_reclaim(
+    rt: &impl Print,
+    letter: u8,
+    image: u64,
+    number: Number,
+    steps: usize,
+    cuts: u64,
+    n: u64,
+) -> io::Result<()> {
     let mut line = [0u8; 128];
     let a = listing::put_byte(&mut line, 0, letter);
     let b = listing::put_field(&mut line, a, image);
     let c = listing::put_field(&mut line, b, number.0 as u64);
     let d = listing::put_field(&mut line, c, steps as u64);
-    write_counts(&mut line, d, cuts, n);
+    write_counts(rt, &mut line, d, cuts, n)
 }
 
-fn write_totals(proper: Tried, impostors: Tried) {
+fn write_totals(rt: &impl Print, proper: Tried, impostors: Tried) -> io::Result<()> {
     let mut line = [0u8; 128];
     let a = listing::put_byte(&mut line, 0, b'T');
     let b = listing::put_field(&mut line, a, proper.cuts);
     let c = listing::put_field(&mut line, b, proper.same);
-    write_counts(&mut line, c, impostors.cuts, differ(impostors));
+    write_counts(rt, &mut line, c, impostors.cuts, differ(impostors))
 }
 
 // ---- an image
@@ -110,6 +122,7 @@ fn reclaim_list(
 
 // A reclaim of the settled image.
 fn try_proper(
+    rt: &impl Print,
     g: Geometry,
     tags: &[u8],
     paths: &[u64],
@@ -122,7 +135,7 @@ fn try_proper(
     before: Before,
     listed: &[u8],
     out: &mut [u8],
-) -> Tried
+) -> io::Result<Tried>
     requires { before.files ≤ 256 }
 {
     let l = reclaim_list(
@@ -148,12 +161,13 @@ fn try_proper(
         listed,
         out,
     );
-    write_reclaim(b'R', image, number, l.count, t.cuts, t.same);
-    t
+    write_reclaim(rt, b'R', image, number, l.count, t.cuts, t.same)?;
+    Ok(t)
 }
 
 // The same, its label write before its pages.
 fn try_impostor(
+    rt: &impl Print,
     g: Geometry,
     tags: &[u8],
     paths: &[u64],
@@ -166,7 +180,7 @@ fn try_impostor(
     before: Before,
     listed: &[u8],
     out: &mut [u8],
-) -> Tried
+) -> io::Result<Tried>
     requires { before.files ≤ 256 }
 {
     let l = reclaim_list(
@@ -193,11 +207,12 @@ fn try_impostor(
         listed,
         out,
     );
-    write_reclaim(b'I', image, number, wrong.count, t.cuts, differ(t));
-    t
+    write_reclaim(rt, b'I', image, number, wrong.count, t.cuts, differ(t))?;
+    Ok(t)
 }
 
 fn try_reclaim(
+    rt: &impl Print,
     g: Geometry,
     tags: &[u8],
     paths: &[u64],
@@ -211,13 +226,14 @@ fn try_reclaim(
     listed: &[u8],
     out: &mut [u8],
     all: Totals,
-) -> Totals
+) -> io::Result<Totals>
     requires { before.files ≤ 256 }
 {
     let Found::At(_) = label::find_data(tags, paths, number) else {
-        return all;
+        return Ok(all);
     };
     let t = try_proper(
+        rt,
         g,
         tags,
         paths,
@@ -230,8 +246,9 @@ fn try_reclaim(
         before,
         listed,
         out,
-    );
+    )?;
     let u = try_impostor(
+        rt,
         g,
         tags,
         paths,
@@ -244,12 +261,13 @@ fn try_reclaim(
         before,
         listed,
         out,
-    );
+    )?;
     let so_far = with_proper(all, t);
-    with_impostor(so_far, u)
+    Ok(with_impostor(so_far, u))
 }
 
 fn try_reclaims(
+    rt: &impl Print,
     g: Geometry,
     tags: &[u8],
     paths: &[u64],
@@ -262,13 +280,13 @@ fn try_reclaims(
     listed: &[u8],
     out: &mut [u8],
     first: Totals,
-) -> Totals
+) -> io::Result<Totals>
     requires { before.files ≤ 256 }
 {
     let mut all = first;
-    let mut k: u32 = 0;
-    while k < NUMBERS {
+    for k in 0..NUMBERS {
         all = try_reclaim(
+            rt,
             g,
             tags,
             paths,
@@ -282,10 +300,9 @@ fn try_reclaims(
             listed,
             out,
             all,
-        );
-        k += 1;
+        )?;
     }
-    all
+    Ok(all)
 }
 
 // The settle's list, found on a copy of the image.
@@ -307,6 +324,7 @@ fn settle_list(
 }
 
 fn try_settle(
+    rt: &impl Print,
     g: Geometry,
     tags: &[u8],
     paths: &[u64],
@@ -318,7 +336,7 @@ fn try_settle(
     before: Before,
     listed: &[u8],
     out: &mut [u8],
-) -> Tried
+) -> io::Result<Tried>
     requires { before.files ≤ 256 }
 {
     let l = settle_list(g, tags, paths, contents, cut_tags, cut_paths, cut_contents);
@@ -335,12 +353,13 @@ fn try_settle(
         listed,
         out,
     );
-    write_settle(image, l.count, t);
-    t
+    write_settle(rt, image, l.count, t)?;
+    Ok(t)
 }
 
 // The settle, and then the reclaims of the settled image.
 fn try_services(
+    rt: &impl Print,
     g: Geometry,
     tags: &mut [u8],
     paths: &mut [u64],
@@ -353,10 +372,11 @@ fn try_services(
     listed: &[u8],
     out: &mut [u8],
     all: Totals,
-) -> Totals
+) -> io::Result<Totals>
     requires { before.files ≤ 256 }
 {
     let t = try_settle(
+        rt,
         g,
         tags,
         paths,
@@ -368,10 +388,11 @@ fn try_services(
         before,
         listed,
         out,
-    );
+    )?;
     settle::settle(g, tags, paths, contents);
     let so_far = with_proper(all, t);
     try_reclaims(
+        rt,
         g,
         tags,
         paths,
@@ -389,6 +410,7 @@ fn try_services(
 
 // All cut states are compared with what the image showed before the settle.
 fn try_image(
+    rt: &impl Print,
     g: Geometry,
     tags: &mut [u8],
     paths: &mut [u64],
@@ -400,13 +422,14 @@ fn try_image(
     listed: &mut [u8],
     out: &mut [u8],
     all: Totals,
-) -> Totals {
+) -> io::Result<Totals> {
     let n = lister::put_listing(listed, 0, g, tags, paths, contents);
     if listed.len() < n {
-        return all;
+        return Ok(all);
     }
     let before = cut::files_of(g, tags, paths, contents);
     try_services(
+        rt,
         g,
         tags,
         paths,
@@ -424,12 +447,19 @@ fn try_image(
 
 // ---- the images
 
-fn try_text(text: &[u8], image: u64, listed: &mut [u8], out: &mut [u8], all: Totals) -> Totals {
+fn try_text(
+    rt: &impl Print,
+    text: &[u8],
+    image: u64,
+    listed: &mut [u8],
+    out: &mut [u8],
+    all: Totals,
+) -> io::Result<Totals> {
     let mut tags = [0u8; 32];
     let mut paths = [0u64; 32];
     let mut contents = [0u8; 32768];
     let Dump::Fine(g, _, _) = dump::parse(text, &mut tags, &mut paths, &mut contents) else {
-        return all;
+        return Ok(all);
     };
     let n = g.blocks as usize;
     let b = label::block_size(g);
@@ -438,6 +468,7 @@ fn try_text(text: &[u8], image: u64, listed: &mut [u8], out: &mut [u8], all: Tot
     let mut cut_paths = [0u64; 32];
     let mut cut_contents = [0u8; 32768];
     try_image(
+        rt,
         g,
         &mut tags[0..n],
         &mut paths[0..n],
@@ -480,7 +511,7 @@ fn end_of(text: &[u8], at: usize) -> usize
     i
 }
 
-fn try_all(text: &[u8], listed: &mut [u8], out: &mut [u8]) -> Totals {
+fn try_all(rt: &impl Print, text: &[u8], listed: &mut [u8], out: &mut [u8]) -> io::Result<Totals> {
     let mut all = Totals {
         proper: cut::nothing(),
         impostors: cut::nothing(),
@@ -490,22 +521,20 @@ fn try_all(text: &[u8], listed: &mut [u8], out: &mut [u8]) -> Totals {
     while at < text.len() {
         let end = end_of(text, at);
         image = std::num::wrapping_add_u64(image, 1);
-        all = try_text(&text[at..end], image, listed, out, all);
+        all = try_text(rt, &text[at..end], image, listed, out, all)?;
         if text.len() - end < 2 {
-            return all;
+            return Ok(all);
         }
         at = end + 2;
     }
-    all
+    Ok(all)
 }
 
-fn main() {
+fn main(rt: HostRuntime) -> io::Result<()> {
     let mut text = [0u8; 81920];
-    let n = io::read_full(0, &mut text);
+    let n = input::read_full(&mut rt.stdin(), &mut text)?;
     let mut listed = [0u8; 327680];
     let mut out = [0u8; 327680];
-    let all = try_all(&text[..n], &mut listed, &mut out);
-    let proper = all.proper;
-    let impostors = all.impostors;
-    write_totals(proper, impostors);
+    let all = try_all(&rt, &text[..n], &mut listed, &mut out)?;
+    write_totals(&rt, all.proper, all.impostors)
 }

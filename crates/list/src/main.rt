@@ -1,16 +1,20 @@
 // The listing program: reads a dump on standard input and writes its listing. An acceptable dump has at most 72,193 bytes, and the
 // first 72,194 of a longer text hold its first bad line; no listing has more than 297,579.
+#![tactic(auto)]
 
-fn write(out: &[u8], n: usize) {
+use std::io;
+
+fn write(rt: &impl Print, out: &[u8], n: usize) -> io::Result<()> {
     if n <= out.len() {
-        io::write_all(1, &out[0..n]);
+        rt.write_all(&out[0..n])?;
     }
+    Ok(())
 }
 
-fn main() {
+fn main(rt: HostRuntime) -> io::Result<()> {
     let mut text = [0u8; 81920];
-    let n = io::read_full(0, &mut text);
+    let n = input::read_full(&mut rt.stdin(), &mut text)?;
     let mut out = [0u8; 327680];
     let end = lister::list(&text[..n], 1, &mut out);
-    write(&out, end);
+    write(&rt, &out, end)
 }

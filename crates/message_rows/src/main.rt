@@ -2,9 +2,12 @@
 // at multiples of 1025 and no line has to be looked for. A blank page prints `blank`. Another prints a line for each message: its
 // letter, its fields in the order of document 01 (a string as its place, first byte + count) and where it ends; then `end`, or
 // `malformed` and the position.
+#![tactic(auto)]
+
 ghost use Rattle.std.specs.Prelude.{◌+◌, ◌<◌, ◌≤◌, length};
 
 use meaning::{Address, Extent, Geometry, Message, Parsed, Place};
+use std::io;
 
 // ---- a row's bytes
 
@@ -44,18 +47,18 @@ fn page_of(input: &[u8], row: usize) -> [u8; 512]
 
 // ---- a message's fields
 
-fn number(n: u32) {
-    io::write_all(1, b"\t");
-    io::print_decimal(1, n as u64);
+fn number(rt: &impl Print, n: u32) -> io::Result<()> {
+    print!(rt; "\t{n}")
 }
 
-fn place(p: Place) {
-    number(p.at);
-    io::write_all(1, b"+");
-    io::print_decimal(1, p.len as u64);
+fn place(rt: &impl Print, p: Place) -> io::Result<()> {
+    number(rt, p.at)?;
+    let len = p.len;
+    print!(rt; "+{len}")
 }
 
 fn print_create(
+    rt: &impl Print,
     parent: u32,
     perm: u32,
     path: u32,
@@ -64,56 +67,77 @@ fn print_create(
     name: Place,
     uid: Place,
     gid: Place,
-) {
-    io::write_all(1, b"c");
-    number(parent);
-    number(perm);
-    number(path);
-    number(mtime);
-    number(cvers);
-    place(name);
-    place(uid);
-    place(gid);
+) -> io::Result<()> {
+    rt.print("c")?;
+    number(rt, parent)?;
+    number(rt, perm)?;
+    number(rt, path)?;
+    number(rt, mtime)?;
+    number(rt, cvers)?;
+    place(rt, name)?;
+    place(rt, uid)?;
+    place(rt, gid)
 }
 
-fn print_remove(path: u32, mtime: u32, muid: Place) {
-    io::write_all(1, b"r");
-    number(path);
-    number(mtime);
-    place(muid);
+fn print_remove(rt: &impl Print, path: u32, mtime: u32, muid: Place) -> io::Result<()> {
+    rt.print("r")?;
+    number(rt, path)?;
+    number(rt, mtime)?;
+    place(rt, muid)
 }
 
-fn print_truncate(path: u32, mtime: u32, cvers: u32, muid: Place) {
-    io::write_all(1, b"t");
-    number(path);
-    number(mtime);
-    number(cvers);
-    place(muid);
+fn print_truncate(
+    rt: &impl Print,
+    path: u32,
+    mtime: u32,
+    cvers: u32,
+    muid: Place,
+) -> io::Result<()> {
+    rt.print("t")?;
+    number(rt, path)?;
+    number(rt, mtime)?;
+    number(rt, cvers)?;
+    place(rt, muid)
 }
 
-fn print_write(run: Extent, mtime: u32, cvers: u32, muid: Place) {
-    io::write_all(1, b"w");
-    number(run.path);
-    number(run.offset);
-    number(run.count);
-    number(mtime);
-    number(cvers);
-    place(muid);
-    number(run.address);
+fn print_write(
+    rt: &impl Print,
+    run: Extent,
+    mtime: u32,
+    cvers: u32,
+    muid: Place,
+) -> io::Result<()> {
+    rt.print("w")?;
+    number(rt, run.path)?;
+    number(rt, run.offset)?;
+    number(rt, run.count)?;
+    number(rt, mtime)?;
+    number(rt, cvers)?;
+    place(rt, muid)?;
+    number(rt, run.address)
 }
 
-fn print_wstat(path: u32, name: Place, perm: u32, uid: Place, gid: Place, mtime: u32, muid: Place) {
-    io::write_all(1, b"W");
-    number(path);
-    place(name);
-    number(perm);
-    place(uid);
-    place(gid);
-    number(mtime);
-    place(muid);
+fn print_wstat(
+    rt: &impl Print,
+    path: u32,
+    name: Place,
+    perm: u32,
+    uid: Place,
+    gid: Place,
+    mtime: u32,
+    muid: Place,
+) -> io::Result<()> {
+    rt.print("W")?;
+    number(rt, path)?;
+    place(rt, name)?;
+    number(rt, perm)?;
+    place(rt, uid)?;
+    place(rt, gid)?;
+    number(rt, mtime)?;
+    place(rt, muid)
 }
 
-fn print_message(m: Message) {
+fn print_message(rt: &impl Print, m: Message) -> io::Result<()> {
     match m {
         Message::Create {
             parent,
@@ -124,28 +148,20 @@ fn print_message(m: Message) {
             name,
             uid,
             gid,
-        } => {
-            print_create(parent, perm, path, mtime, cvers, name, uid, gid);
-        }
-        Message::Remove { path, mtime, muid } => {
-            print_remove(path, mtime, muid);
-        }
+        } => print_create(rt, parent, perm, path, mtime, cvers, name, uid, gid),
+        Message::Remove { path, mtime, muid } => print_remove(rt, path, mtime, muid),
         Message::Truncate {
             path,
             mtime,
             cvers,
             muid,
-        } => {
-            print_truncate(path, mtime, cvers, muid);
-        }
+        } => print_truncate(rt, path, mtime, cvers, muid),
         Message::Write {
             run,
             mtime,
             cvers,
             muid,
-        } => {
-            print_write(run, mtime, cvers, muid);
-        }
+        } => print_write(rt, run, mtime, cvers, muid),
         Message::Wstat {
             path,
             name,
@@ -154,18 +170,14 @@ fn print_message(m: Message) {
             gid,
             mtime,
             muid,
-        } => {
-            print_wstat(path, name, perm, uid, gid, mtime, muid);
-        }
+        } => print_wstat(rt, path, name, perm, uid, gid, mtime, muid),
     }
 }
 
 // ---- pages
 
-fn print_end(at: usize) {
-    io::write_all(1, b"\t");
-    io::print_decimal(1, at as u64);
-    io::write_all(1, b"\n");
+fn print_end(rt: &impl Print, at: usize) -> io::Result<()> {
+    println!(rt; "\t{at}")
 }
 
 // What stands at a position of a page that is block 0's first.
@@ -179,50 +191,45 @@ fn parse_at(page: &[u8; 512], at: usize) -> Parsed {
 }
 
 // A message takes 7 bytes at least, so 512 turns are enough.
-fn walk(page: &[u8; 512]) {
+fn walk(rt: &impl Print, page: &[u8; 512]) -> io::Result<()> {
     let mut at: usize = 0;
-    let mut turns: u32 = 512;
-    while 0 < turns {
-        turns -= 1;
+    for _ in 0..512 {
         match parse_at(page, at) {
             Parsed::Found(m, next) => {
-                print_message(m);
-                print_end(next);
+                print_message(rt, m)?;
+                print_end(rt, next)?;
                 at = next;
             }
-            Parsed::End => {
-                io::write_all(1, b"end\n");
-                return;
-            }
+            Parsed::End => return rt.println("end"),
             Parsed::Malformed => {
-                io::write_all(1, b"malformed");
-                print_end(at);
-                return;
+                rt.print("malformed")?;
+                return print_end(rt, at);
             }
         }
     }
+    Ok(())
 }
 
-fn print_page(page: &[u8; 512]) {
+fn print_page(rt: &impl Print, page: &[u8; 512]) -> io::Result<()> {
     if message::is_blank(page) {
-        io::write_all(1, b"blank\n");
-        return;
+        return rt.println("blank");
     }
-    walk(page);
+    walk(rt, page)
 }
 
 // An incomplete row ends the input.
-fn rows(input: &[u8]) {
+fn rows(rt: &impl Print, input: &[u8]) -> io::Result<()> {
     let mut row: usize = 0;
     while 1025 <= input.len() - row {
         let page = page_of(input, row);
-        print_page(&page);
+        print_page(rt, &page)?;
         row += 1025;
     }
+    Ok(())
 }
 
-fn main() {
-    let mut buf = io::large_buffer();
-    let n = io::read_full(0, &mut buf);
-    rows(&buf[..n]);
+fn main(rt: HostRuntime) -> io::Result<()> {
+    let mut text = [0u8; 65536];
+    let n = input::read_full(&mut rt.stdin(), &mut text)?;
+    rows(&rt, &text[..n])
 }

@@ -7,6 +7,8 @@
 //                        reclaim is of the settled image, never of what another left
 //   D path offset hex    each plain file by path, read from the settled image: its first 32 bytes, and its last if it has more
 // Each line is written as soon as it is made, so no text has to have room: the longest, a D of 32 bytes, has at most 109.
+#![tactic(auto)]
+
 ghost use Rattle.std.specs.Prelude.{◌≤◌};
 ghost use Rattle.reclaim.specs.Reclaimed.{Listing};
 
@@ -17,55 +19,63 @@ use meaning::{Block, Geometry, Number, Record, Refusal, Step};
 use reclaim::Steps;
 use replay::Said;
 use shown::Shown;
+use std::io;
 
 // "numbers are at most 4095"
 const NUMBERS: u32 = 4096;
 
 // ---- lines
 
-fn write(line: &[u8], n: usize) {
+fn write(rt: &impl Print, line: &[u8], n: usize) -> io::Result<()> {
     if n <= line.len() {
-        io::write_all(1, &line[0..n]);
+        rt.write_all(&line[0..n])?;
     }
+    Ok(())
 }
 
-fn write_refusal(r: Refusal) {
+fn write_refusal(rt: &impl Print, r: Refusal) -> io::Result<()> {
     let mut line = [0u8; 128];
     let n = listing::put_refusal(&mut line, 0, r);
-    write(&line, n);
+    write(rt, &line, n)
 }
 
-fn write_page(number: Number, page: usize) {
+fn write_page(rt: &impl Print, number: Number, page: usize) -> io::Result<()> {
     let mut line = [0u8; 128];
     let n = report::put_page(&mut line, 0, number, page);
-    write(&line, n);
+    write(rt, &line, n)
 }
 
-fn write_block(b: Block) {
+fn write_block(rt: &impl Print, b: Block) -> io::Result<()> {
     let mut line = [0u8; 128];
     let n = report::put_block(&mut line, 0, b);
-    write(&line, n);
+    write(rt, &line, n)
 }
 
-fn write_number(number: Number) {
+fn write_number(rt: &impl Print, number: Number) -> io::Result<()> {
     let mut line = [0u8; 128];
     let n = report::put_number(&mut line, 0, number);
-    write(&line, n);
+    write(rt, &line, n)
 }
 
-fn write_step(s: Step) {
+fn write_step(rt: &impl Print, s: Step) -> io::Result<()> {
     let mut line = [0u8; 128];
     let n = report::put_step(&mut line, 0, s);
-    write(&line, n);
+    write(rt, &line, n)
 }
 
-fn write_bytes(path: u32, offset: u64, bytes: &[u8], count: usize) {
+fn write_bytes(
+    rt: &impl Print,
+    path: u32,
+    offset: u64,
+    bytes: &[u8],
+    count: usize,
+) -> io::Result<()> {
     if bytes.len() < count {
-        return;
+        return Ok(());
     }
     let mut line = [0u8; 128];
     let n = report::put_data(&mut line, 0, path, offset, &bytes[0..count]);
-    write(&line, n);
+    write(rt, &line, n)
 }
 
 // ---- used pages
@@ -78,32 +88,41 @@ fn mask_at(masks: &[u32], b: Block) -> u32 {
     0
 }
 
-fn write_pages(g: Geometry, number: Number, mask: u32) {
-    let n = g.pages as usize;
-    let mut p: usize = 0;
-    while p < n {
-        let page = p;
-        p += 1;
+fn write_pages(rt: &impl Print, g: Geometry, number: Number, mask: u32) -> io::Result<()> {
+    for page in 0..g.pages as usize {
         if used::has_page(mask, page) {
-            write_page(number, page);
+            write_page(rt, number, page)?;
         }
     }
+    Ok(())
 }
 
-fn write_used_of(g: Geometry, tags: &[u8], paths: &[u64], masks: &[u32], number: Number) {
+fn write_used_of(
+    rt: &impl Print,
+    g: Geometry,
+    tags: &[u8],
+    paths: &[u64],
+    masks: &[u32],
+    number: Number,
+) -> io::Result<()> {
     let Found::At(b) = label::find_data(tags, paths, number) else {
-        return;
+        return Ok(());
     };
     let mask = mask_at(masks, b);
-    write_pages(g, number, mask);
+    write_pages(rt, g, number, mask)
 }
 
-fn write_used(g: Geometry, tags: &[u8], paths: &[u64], masks: &[u32]) {
-    let mut k: u32 = 0;
-    while k < NUMBERS {
-        write_used_of(g, tags, paths, masks, Number(k));
-        k += 1;
+fn write_used(
+    rt: &impl Print,
+    g: Geometry,
+    tags: &[u8],
+    paths: &[u64],
+    masks: &[u32],
+) -> io::Result<()> {
+    for k in 0..NUMBERS {
+        write_used_of(rt, g, tags, paths, masks, Number(k))?;
     }
+    Ok(())
 }
 
 // ---- the erase list, and settle
@@ -112,66 +131,61 @@ fn block_of(b: u32) -> Block {
     Block(b as usize)
 }
 
-fn write_erase_list(blocks: &[u32], n: usize) {
-    let mut i: usize = 0;
-    while i < n {
-        if blocks.len() <= i {
-            return;
-        }
-        write_block(block_of(blocks[i]));
-        i += 1;
+fn write_erase_list(rt: &impl Print, blocks: &[u32], n: usize) -> io::Result<()> {
+    for b in blocks.iter().take(n) {
+        write_block(rt, block_of(*b))?;
     }
+    Ok(())
 }
 
-fn write_erases(blocks: &[u32], n: usize) {
-    let mut i: usize = 0;
-    while i < n {
-        if blocks.len() <= i {
-            return;
-        }
-        write_step(Step::Erase(block_of(blocks[i])));
-        i += 1;
+fn write_erases(rt: &impl Print, blocks: &[u32], n: usize) -> io::Result<()> {
+    for b in blocks.iter().take(n) {
+        write_step(rt, Step::Erase(block_of(*b)))?;
     }
+    Ok(())
 }
 
-fn settle(g: Geometry, tags: &mut [u8], paths: &mut [u64], contents: &mut [u8]) {
+fn settle(
+    rt: &impl Print,
+    g: Geometry,
+    tags: &mut [u8],
+    paths: &mut [u64],
+    contents: &mut [u8],
+) -> io::Result<()> {
     let r = settle::settle(g, tags, paths, contents);
-    let blocks = r.blocks;
-    write_erases(&blocks, r.count);
+    write_erases(rt, &r.blocks, r.count)
 }
 
 // ---- reclaims
 
-fn write_steps(l: Steps)
+fn write_steps(rt: &impl Print, l: Steps) -> io::Result<()>
     requires { Listing 35 l }
 {
-    let n = l.count;
-    let mut i: usize = 0;
-    while i < n {
-        let next = l.steps[i];
-        let s = next.step;
-        write_step(s);
-        i += 1;
+    for next in &l.steps[..l.count] {
+        write_step(rt, next.step)?;
     }
+    Ok(())
 }
 
-fn reclaim(g: Geometry, tags: &mut [u8], paths: &mut [u64], contents: &mut [u8], number: Number) {
-    write_number(number);
+fn reclaim(
+    rt: &impl Print,
+    g: Geometry,
+    tags: &mut [u8],
+    paths: &mut [u64],
+    contents: &mut [u8],
+    number: Number,
+) -> io::Result<()> {
+    write_number(rt, number)?;
     let r = reclaim::reclaim(g, tags, paths, contents, number.0);
-    let list = r.list;
-    let said = r.said;
-    match said {
-        Said::Refused(x) => {
-            write_refusal(x);
-        }
-        Said::Whole => {
-            write_steps(list);
-        }
+    match r.said {
+        Said::Refused(x) => write_refusal(rt, x),
+        Said::Whole => write_steps(rt, r.list),
     }
 }
 
 // A reclaim of the settled image, on a copy of it.
 fn reclaim_copy(
+    rt: &impl Print,
     g: Geometry,
     tags: &[u8],
     paths: &[u64],
@@ -180,15 +194,16 @@ fn reclaim_copy(
     spare_paths: &mut [u64],
     spare: &mut [u8],
     number: Number,
-) {
+) -> io::Result<()> {
     let Found::At(_) = label::find_data(tags, paths, number) else {
-        return;
+        return Ok(());
     };
     copy::image(tags, paths, contents, spare_tags, spare_paths, spare);
-    reclaim(g, spare_tags, spare_paths, spare, number);
+    reclaim(rt, g, spare_tags, spare_paths, spare, number)
 }
 
 fn reclaim_all(
+    rt: &impl Print,
     g: Geometry,
     tags: &[u8],
     paths: &[u64],
@@ -196,10 +211,10 @@ fn reclaim_all(
     spare_tags: &mut [u8],
     spare_paths: &mut [u64],
     spare: &mut [u8],
-) {
-    let mut k: u32 = 0;
-    while k < NUMBERS {
+) -> io::Result<()> {
+    for k in 0..NUMBERS {
         reclaim_copy(
+            rt,
             g,
             tags,
             paths,
@@ -208,64 +223,79 @@ fn reclaim_all(
             spare_paths,
             spare,
             Number(k),
-        );
-        k += 1;
+        )?;
     }
+    Ok(())
 }
 
 // ---- files
 
-fn read_at(g: Geometry, tags: &[u8], paths: &[u64], contents: &[u8], path: u32, offset: u64) {
-    let mut bytes = [0u8; 32];
-    match file::read(g, tags, paths, contents, path as u64, offset, &mut bytes) {
-        Outcome::Read(n) => {
-            write_bytes(path, offset, &bytes, n);
-        }
-        Outcome::Refused(x) => {
-            write_refusal(x);
-        }
-    }
-}
-
-fn read_file(g: Geometry, tags: &[u8], paths: &[u64], contents: &[u8], f: Record) {
-    if tree::is_dir(f.perm) {
-        return;
-    }
-    read_at(g, tags, paths, contents, f.path, 0);
-    if 32 < f.length {
-        read_at(g, tags, paths, contents, f.path, f.length as u64 - 32);
-    }
-}
-
-fn read_files(
+fn read_at(
+    rt: &impl Print,
     g: Geometry,
     tags: &[u8],
     paths: &[u64],
     contents: &[u8],
-    records: [Record; 256],
+    path: u32,
+    offset: u64,
+) -> io::Result<()> {
+    let mut bytes = [0u8; 32];
+    match file::read(g, tags, paths, contents, path as u64, offset, &mut bytes) {
+        Outcome::Read(n) => write_bytes(rt, path, offset, &bytes, n),
+        Outcome::Refused(x) => write_refusal(rt, x),
+    }
+}
+
+fn read_file(
+    rt: &impl Print,
+    g: Geometry,
+    tags: &[u8],
+    paths: &[u64],
+    contents: &[u8],
+    f: &Record,
+) -> io::Result<()> {
+    if tree::is_dir(f.perm) {
+        return Ok(());
+    }
+    read_at(rt, g, tags, paths, contents, f.path, 0)?;
+    if 32 < f.length {
+        read_at(rt, g, tags, paths, contents, f.path, f.length as u64 - 32)?;
+    }
+    Ok(())
+}
+
+fn read_files(
+    rt: &impl Print,
+    g: Geometry,
+    tags: &[u8],
+    paths: &[u64],
+    contents: &[u8],
+    records: &[Record; 256],
     n: usize,
-)
+) -> io::Result<()>
     requires { n ≤ 256 }
 {
-    let mut i: usize = 0;
-    while i < n {
-        let f = records[i];
-        read_file(g, tags, paths, contents, f);
-        i += 1;
+    for f in &records[..n] {
+        read_file(rt, g, tags, paths, contents, f)?;
     }
+    Ok(())
 }
 
 // ---- the whole
 
-fn write_shown(g: Geometry, tags: &[u8], paths: &[u64], r: Shown) {
-    let masks = r.used;
-    write_used(g, tags, paths, &masks);
-    let erase = r.erase;
-    let blocks = erase.blocks;
-    write_erase_list(&blocks, erase.count);
+fn write_shown(
+    rt: &impl Print,
+    g: Geometry,
+    tags: &[u8],
+    paths: &[u64],
+    r: &Shown,
+) -> io::Result<()> {
+    write_used(rt, g, tags, paths, &r.used)?;
+    write_erase_list(rt, &r.erase.blocks, r.erase.count)
 }
 
 fn write_room(
+    rt: &impl Print,
     g: Geometry,
     tags: &mut [u8],
     paths: &mut [u64],
@@ -273,18 +303,18 @@ fn write_room(
     spare_tags: &mut [u8],
     spare_paths: &mut [u64],
     spare: &mut [u8],
-    r: Shown,
-)
-    requires { r.files ≤ 256 }
+    r: &Shown,
+) -> io::Result<()>
+    requires { r.now.files ≤ 256 }
 {
-    write_shown(g, tags, paths, r);
-    settle(g, tags, paths, contents);
-    reclaim_all(g, tags, paths, contents, spare_tags, spare_paths, spare);
-    let records = r.records;
-    read_files(g, tags, paths, contents, records, r.files);
+    write_shown(rt, g, tags, paths, r)?;
+    settle(rt, g, tags, paths, contents)?;
+    reclaim_all(rt, g, tags, paths, contents, spare_tags, spare_paths, spare)?;
+    read_files(rt, g, tags, paths, contents, &r.records, r.files)
 }
 
 fn make_room(
+    rt: &impl Print,
     g: Geometry,
     tags: &mut [u8],
     paths: &mut [u64],
@@ -292,31 +322,33 @@ fn make_room(
     spare_tags: &mut [u8],
     spare_paths: &mut [u64],
     spare: &mut [u8],
-) {
+) -> io::Result<()> {
     let mut rows = [[0u32; 4]; 1024];
     let r = shown::show(g, tags, paths, contents, &mut rows);
     let said = r.said;
     match said {
-        Said::Refused(x) => {
-            write_refusal(x);
-        }
-        Said::Whole => {
-            write_room(g, tags, paths, contents, spare_tags, spare_paths, spare, r);
-        }
+        Said::Refused(x) => write_refusal(rt, x),
+        Said::Whole => write_room(
+            rt,
+            g,
+            tags,
+            paths,
+            contents,
+            spare_tags,
+            spare_paths,
+            spare,
+            &r,
+        ),
     }
 }
 
 // A dump has at most 32 blocks and 32,768 content bytes, and the first 81,920 bytes of a text hold its first bad line.
-fn main() {
-    let mut text = [0u8; 81920];
-    let got = io::read_full(0, &mut text);
+fn run(rt: &impl Print, text: &[u8]) -> io::Result<()> {
     let mut tags = [0u8; 32];
     let mut paths = [0u64; 32];
     let mut contents = [0u8; 32768];
-    match dump::parse(&text[..got], &mut tags, &mut paths, &mut contents) {
-        Dump::Refused(x) => {
-            write_refusal(x);
-        }
+    match dump::parse(text, &mut tags, &mut paths, &mut contents) {
+        Dump::Refused(x) => write_refusal(rt, x),
         Dump::Fine(g, _, _) => {
             let n = g.blocks as usize;
             let b = label::block_size(g);
@@ -325,6 +357,7 @@ fn main() {
             let mut spare_paths = [0u64; 32];
             let mut spare = [0u8; 32768];
             make_room(
+                rt,
                 g,
                 &mut tags[0..n],
                 &mut paths[0..n],
@@ -332,7 +365,14 @@ fn main() {
                 &mut spare_tags[0..n],
                 &mut spare_paths[0..n],
                 &mut spare[0..bytes],
-            );
+            )
         }
     }
+}
+
+// The first 81,920 bytes of a text hold its first bad line.
+fn main(rt: HostRuntime) -> io::Result<()> {
+    let mut text = [0u8; 81920];
+    let n = input::read_full(&mut rt.stdin(), &mut text)?;
+    run(&rt, &text[..n])
 }

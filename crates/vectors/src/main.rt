@@ -1,9 +1,13 @@
 // Reads dumps on standard input, each ended by a line `Z`, and writes each one's listing and a line `Z`. The input may have any length:
 // it is read in pieces, and of a dump that is too long to be acceptable the first 81,920 bytes are kept, which hold its first bad line.
+#![tactic(auto)]
+
 ghost use Rattle.std.specs.Prelude.{◌<◌};
 
+use std::io::{self, Read};
+
 // The line that the next byte stands in: at its start, after a `Z` that is all of it so far, or another.
-#[derive(Drop)]
+#[derive(Clone, Copy)]
 enum Line {
     Start,
     Z,
@@ -11,7 +15,7 @@ enum Line {
 }
 
 // How many bytes of the dump are kept, and where its last line began.
-#[derive(Drop)]
+#[derive(Clone, Copy)]
 struct Kept {
     count: usize,
     start: usize,
@@ -26,19 +30,20 @@ fn none() -> Kept {
     }
 }
 
-fn write(out: &[u8], n: usize) {
+fn write(rt: &impl Print, out: &[u8], n: usize) -> io::Result<()> {
     if n <= out.len() {
-        io::write_all(1, &out[0..n]);
+        rt.write_all(&out[0..n])?;
     }
+    Ok(())
 }
 
-fn write_listing(text: &[u8], n: usize, out: &mut [u8]) {
+fn write_listing(rt: &impl Print, text: &[u8], n: usize, out: &mut [u8]) -> io::Result<()> {
     if text.len() < n {
-        return;
+        return Ok(());
     }
     let end = lister::list(&text[0..n], 1, out);
-    write(out, end);
-    io::write_all(1, b"Z\n");
+    write(rt, out, end)?;
+    rt.write_all(b"Z\n")
 }
 
 // The byte at its place, and how many are kept then.
@@ -84,47 +89,48 @@ fn start_of(line: Line, count: usize, start: usize) -> usize {
 }
 
 // One byte of the input: the last of a dump, or one to keep.
-fn take(text: &mut [u8], k: Kept, b: u8, out: &mut [u8]) -> Kept {
+fn take(rt: &impl Print, text: &mut [u8], k: Kept, b: u8, out: &mut [u8]) -> io::Result<Kept> {
     let line = k.line;
     if is_end(line, b) {
-        write_listing(text, k.start, out);
-        return none();
+        write_listing(rt, text, k.start, out)?;
+        return Ok(none());
     }
     let start = start_of(line, k.count, k.start);
     let count = keep(text, k.count, b);
     let after = line_after(line, b);
-    Kept {
+    Ok(Kept {
         count,
         start,
         line: after,
-    }
+    })
 }
 
-fn take_piece(piece: &[u8], text: &mut [u8], first: Kept, out: &mut [u8]) -> Kept {
+fn take_piece(
+    rt: &impl Print,
+    piece: &[u8],
+    text: &mut [u8],
+    first: Kept,
+    out: &mut [u8],
+) -> io::Result<Kept> {
     let mut k = first;
-    let mut i: usize = 0;
-    while i < piece.len() {
-        k = take(text, k, piece[i], out);
-        i += 1;
+    for b in piece {
+        k = take(rt, text, k, *b, out)?;
     }
-    k
+    Ok(k)
 }
 
 // The input ends: a last line `Z` may lack its newline, and a last dump its `Z`.
-fn finish(text: &[u8], k: Kept, out: &mut [u8]) {
+fn finish(rt: &impl Print, text: &[u8], k: Kept, out: &mut [u8]) -> io::Result<()> {
     let line = k.line;
     match line {
-        Line::Z => {
-            write_listing(text, k.start, out);
-        }
+        Line::Z => write_listing(rt, text, k.start, out),
         Line::Start => {
-            if 0 < k.count {
-                write_listing(text, k.count, out);
+            if k.count == 0 {
+                return Ok(());
             }
+            write_listing(rt, text, k.count, out)
         }
-        Line::Other => {
-            write_listing(text, k.count, out);
-        }
+        Line::Other => write_listing(rt, text, k.count, out),
     }
 }
 
@@ -140,20 +146,26 @@ fn left_after(n: usize, left: u64) -> u64
 }
 
 // No input has 2^63 pieces.
-fn list_all(text: &mut [u8], piece: &mut [u8], out: &mut [u8]) {
+fn list_all(
+    rt: &impl Print,
+    input: &mut impl Read,
+    text: &mut [u8],
+    piece: &mut [u8],
+    out: &mut [u8],
+) -> io::Result<()> {
     let mut k = none();
     let mut left: u64 = 9223372036854775808;
     while 0 < left {
-        let n = io::read_full(0, piece);
-        k = take_piece(&piece[..n], text, k, out);
+        let n = input::read_full(input, piece)?;
+        k = take_piece(rt, &piece[..n], text, k, out)?;
         left = left_after(n, left);
     }
-    finish(text, k, out);
+    finish(rt, text, k, out)
 }
 
-fn main() {
+fn main(rt: HostRuntime) -> io::Result<()> {
     let mut text = [0u8; 81920];
     let mut piece = [0u8; 65536];
     let mut out = [0u8; 327680];
-    list_all(&mut text, &mut piece, &mut out);
+    list_all(&rt, &mut rt.stdin(), &mut text, &mut piece, &mut out)
 }

@@ -1,0 +1,9 @@
+-- The bytes that are read have room in the slice.
+use Rattle.std.proofs.Common.{◌≤◌, ◌-◌, length}
+use Rattle.input.proofs.read_full.Given as goal
+
+abbrev pub invariant-loop-n : goal.invariant-loop-n
+invariant-loop-n g l = l.n ≤ length l.slice
+
+abbrev pub decreases-loop-n : goal.decreases-loop-n
+decreases-loop-n g l = length l.initial.slice - l.n
