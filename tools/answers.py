@@ -1,10 +1,11 @@
 #!/usr/bin/env python3
 """Turns proofs that walk a function's needs by hand, proofs/F/Proof.antt, into Invariants.antt and Answers.antt.
 
-    rt check --generated /tmp/names --old-names      in the crate's folder: lists each need's old name and new one
-    python3 tools/answers.py CRATE /tmp/names/names.json [FUNCTION..]
+    rt check --generated FOLDER --old-names      in the crate's folder: lists each need's old name and new one
+    python3 tools/answers.py CRATE FOLDER/names.json [FUNCTION..]
 
-An answer that only says `search rules` goes. A file that it can't turn stays, and is named.
+An answer that only says `search rules` goes. A file that it can't turn stays, and is named. OLD_PROOFS=FOLDER: the old files are read
+from FOLDER/CRATE/proofs. KEEP=FILE: lines 'CRATE FUNCTION NEED' name answers that stay though they only say `search rules`.
 """
 import json
 import os
@@ -271,11 +272,11 @@ def as_record(body, names):
     return lead + "record {" + " ".join(f"{n} = {p};" for n, p in zip(names, parts)) + "}"
 
 
-KEEP = set()
-if os.path.exists("/tmp/keep.txt"):
-    with open("/tmp/keep.txt") as f:
-        KEEP = {tuple(l.split()) for l in f}
 OLD = os.environ.get("OLD_PROOFS")
+KEEP = set()
+if "KEEP" in os.environ:
+    with open(os.environ["KEEP"], encoding="utf-8") as f:
+        KEEP = {tuple(l.split()) for l in f}
 
 SEARCH = re.compile(r"\(?search rules(?: depth \d+)?\)?$")
 

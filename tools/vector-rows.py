@@ -72,10 +72,9 @@ def row(k, dump, listing):
 
 
 HEAD = """-- Outside dumps and what their listings show, by computation. Written by tools/vector-rows.py; dump k is the k-th of the vectors.
-use mathlib.Core.Path.{_≡_, refl}
-use mathlib.Core.List.{List, [], _∷_}
-use Prim.Native.Nat.{ℕ}
-use Rattle·meaning.proofs.Shown.{Dump, line, lines}
+use mathlib.Core.Path.{◌≡◌, refl}
+use mathlib.Core.List.{[], ◌∷◌}
+use Rattle.meaning.proofs.Shown.{Dump, line, lines}
 """
 
 
