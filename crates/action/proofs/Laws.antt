@@ -1,13 +1,17 @@
 -- Steps and their numbers.
 -- Assumes nothing.
-use Prim.Native.Nat.{ℕ}
-use mathlib.Core.Path.{◌≡◌, refl, sym, ap, ◌∙◌}
+use Prim.Native.Nat.{ℕ, ◌+◌, ◌<◌, ◌≤◌}
+use mathlib.Core.Path.{◌≡◌, refl, sym}
 use mathlib.Core.List.{List, [], ◌∷◌, map}
 use native.Mathlib.Omega.{arith}
+use lib.ListN.{length, take, set, get_or}
+use Rattle.std.proofs.lemmas.List.{length-take}
+use Rattle.base.proofs.Lists.{map_on}
 use Rattle.base.proofs.Ways.{yes=, no=}
-use Rattle.meaning.specs.declared.Block.{Block}
 use Rattle.meaning.specs.declared.Step.{Step}
 use Rattle.meaning.specs.declared.Step.TheVariants.{Erase, PageWrite, LabelWrite}
+use Rattle.reclaim.specs.declared.steps.Steps.{Steps}
+use Rattle.reclaim.specs.Reclaimed.{steps_in}
 use Rattle.action.specs.declared.Action.{Action}
 use Rattle.action.specs.Action.{action_of, step_of}
 
@@ -22,14 +26,10 @@ pub all_back : (ss : List Step) → map step_of (map action_of ss) ≡ ss
 all_back [] = refl
 all_back (s ∷ ss) = λ i. back s i ∷ all_back ss i
 
-module _ {a : Action} {s : Step} where
-  pub erase_is : {b : Block} → s ≡ Erase b → a.kind ≡ 1 → a.tag ≡ 0 → a.block ≡ b.0 → a.from ≡ 0 → a.page ≡ 0 → a.path ≡ 0 → a ≡ action_of s
-  erase_is e k t b f p q = (λ i. record { kind = k i; tag = t i; block = b i; from = f i; page = p i; path = q i }) ∙ ap action_of (sym e)
+-- steps in numbers one by one: there are at most 35, and one more
+pub few : (l : Steps) (xs : List Step) → xs ≡ steps_in l → length xs ≤ 35
+few l xs e = rw e (omega (arith, length-take l.count l.steps, l.whole.0))
 
-  pub page_is : {from to : Block} {page : ℕ} → s ≡ PageWrite from to page → a.kind ≡ 2 → a.tag ≡ 0 → a.block ≡ to.0 → a.from ≡ from.0
-      → a.page ≡ page → a.path ≡ 0 → a ≡ action_of s
-  page_is e k t b f p q = (λ i. record { kind = k i; tag = t i; block = b i; from = f i; page = p i; path = q i }) ∙ ap action_of (sym e)
-
-  pub label_is : {b : Block} {tag path : ℕ} → s ≡ LabelWrite b tag path → a.kind ≡ 3 → a.tag ≡ tag → a.block ≡ b.0 → a.from ≡ 0 → a.page ≡ 0
-      → a.path ≡ path → a ≡ action_of s
-  label_is e k t b f p q = (λ i. record { kind = k i; tag = t i; block = b i; from = f i; page = p i; path = q i }) ∙ ap action_of (sym e)
+pub next_said : (xs : List Step) (ys : List Action) (k : ℕ) (v : Action) (d : Step) → k < length ys → k < length xs → v ≡ action_of (get_or xs k d)
+    → take k ys ≡ map action_of (take k xs) → take (k + 1) (set ys k v) ≡ map action_of (take (k + 1) xs)
+next_said xs ys k v d h m e p = rw e (map_on action_of d xs ys k p h m)

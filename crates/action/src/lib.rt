@@ -2,7 +2,7 @@
 #![tactic(auto)]
 
 ghost use Rattle.std.specs.Prelude.{◌≡◌, map, take};
-ghost use Rattle.reclaim.specs.Reclaimed.{steps_in, Listing};
+ghost use Rattle.reclaim.specs.Reclaimed.{steps_in};
 ghost use Rattle.action.specs.Action.{action_of, step_of};
 
 use meaning::{Block, Step};
@@ -12,6 +12,7 @@ use reclaim::Steps;
 #[repr(C)]
 #[derive(Clone, Copy)]
 pub struct Action {
+    // No enum: a host in C may give any number.
     pub kind: u32,
     /// The tag of a label write.
     pub tag: u8,
@@ -34,74 +35,69 @@ impl Action {
 
 /// The step that the numbers say. A kind that is none of the three names a block that no geometry has, so it is refused as any such
 /// step is.
-pub fn step_of(a: Action) -> Step
-    ensures { result ≡ step_of a }
-{
-    if a.kind == Action::ERASE {
-        return Step::Erase(Block(a.block));
+impl From<Action> for Step {
+    ghost from_gives = { λ a s. s ≡ step_of a };
+
+    #[tactic(auto, unfolding(crate::specs::Action::step_of, base::specs::Choice::if_eq, base::specs::Choice::if_true))]
+    fn from(a: Action) -> Step {
+        match a.kind {
+            Action::ERASE => Step::Erase(Block(a.block)),
+            Action::PAGE => Step::PageWrite {
+                from: Block(a.from),
+                to: Block(a.block),
+                page: a.page,
+            },
+            Action::LABEL => Step::LabelWrite {
+                block: Block(a.block),
+                tag: a.tag,
+                path: a.path,
+            },
+            _ => Step::Erase(Block(65536)),
+        }
     }
-    if a.kind == Action::PAGE {
-        return Step::PageWrite {
-            from: Block(a.from),
-            to: Block(a.block),
-            page: a.page,
-        };
-    }
-    if a.kind == Action::LABEL {
-        return Step::LabelWrite {
-            block: Block(a.block),
-            tag: a.tag,
-            path: a.path,
-        };
-    }
-    Step::Erase(Block(65536))
 }
 
-pub fn action_of(s: Step) -> Action
-    ensures { result ≡ action_of s }
-{
-    match s {
-        Step::Erase(b) => Action {
-            kind: Action::ERASE,
-            tag: 0,
-            block: b.0,
-            from: 0,
-            page: 0,
-            path: 0,
-        },
-        Step::PageWrite { from, to, page } => Action {
-            kind: Action::PAGE,
-            tag: 0,
-            block: to.0,
-            from: from.0,
-            page,
-            path: 0,
-        },
-        Step::LabelWrite { block, tag, path } => Action {
-            kind: Action::LABEL,
-            tag,
-            block: block.0,
-            from: 0,
-            page: 0,
-            path,
-        },
+impl From<Step> for Action {
+    ghost from_gives = { λ s a. a ≡ action_of s };
+
+    fn from(s: Step) -> Action {
+        match s {
+            Step::Erase(b) => Action {
+                kind: Action::ERASE,
+                tag: 0,
+                block: b.0,
+                from: 0,
+                page: 0,
+                path: 0,
+            },
+            Step::PageWrite { from, to, page } => Action {
+                kind: Action::PAGE,
+                tag: 0,
+                block: to.0,
+                from: from.0,
+                page,
+                path: 0,
+            },
+            Step::LabelWrite { block, tag, path } => Action {
+                kind: Action::LABEL,
+                tag,
+                block: block.0,
+                from: 0,
+                page: 0,
+                path,
+            },
+        }
     }
 }
 
 /// A list of steps in numbers: as many as it has.
 pub fn actions_of(l: Steps) -> [Action; 35]
-    requires { Listing 35 l }
     ensures { take l.count result ≡ map action_of (steps_in l) }
 {
-    let none = action_of(Step::Erase(Block(0)));
+    let none = Action::from(Step::Erase(Block(0)));
     let mut actions = [none; 35];
-    let n = l.count;
-    let mut k = 0;
-    while k < n {
-        let next = l.steps[k];
-        let s = next.step;
-        actions[k] = action_of(s);
-        k += 1;
+    for (k, s) in l.as_slice().iter().enumerate() {
+        actions[k] = Action::from(*s);
     }
     actions
 }

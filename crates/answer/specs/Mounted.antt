@@ -1,33 +1,22 @@
 -- The answer of a mount that fills a lent table, as document 01 has it.
-use Rattle.std.specs.Prelude.{ℕ, ◌≤◌, ◌≡◌, List, eqb, take}
+use Rattle.std.specs.Prelude.{ℕ, ◌≤◌, ◌≡◌, List, eqb, take, Result, Ok, Err, ⊤}
 use Rattle.std.proofs.Math.Option.{Option, none, some}
 use Rattle.base.specs.Choice.{if_eq, if_true}
 use Rattle.meaning.specs.declared.Geometry.{Geometry}
 use Rattle.meaning.specs.declared.Record.{Record}
 use Rattle.meaning.specs.declared.Refusal.TheVariants as refused
-use Rattle.meaning.specs.Answer.{Answer, no, number_of, place_of}
+use Rattle.meaning.specs.Answer.{Answer, answer_by, no}
 use Rattle.meaning.specs.Flash.{Lent, image_of}
 use Rattle.meaning.specs.Mount as meaning
 use Rattle.meaning.specs.Mount.{mount_of}
-use Rattle.replay.specs.declared.Said.{Said}
-use Rattle.replay.specs.declared.Said.TheVariants.{Whole, Refused}
-use Rattle.replay.specs.Replay.{answer_by}
+use Rattle.meaning.specs.declared.Refusal.{Refusal}
 use Rattle.used.specs.Bits.{listed, used_bits}
-use Rattle.outcome.specs.declared.Outcome.{Outcome}
-use Rattle.outcome.specs.Outcome.{refusal_of}
+use Rattle.outcome.specs.Outcome.{outcome_of, said_of}
 use Rattle.answer.specs.declared.Core.{Core}
 use Rattle.answer.specs.declared.Insertion.{Insertion}
 use Rattle.answer.specs.declared.Mounted.{Mounted}
 
 -- ---- in numbers
-
--- how it ended, in numbers, and what the numbers say
-abbrev pub outcome_of : Said → Outcome
-outcome_of Whole = record { refusal = 0; place = 0 }
-outcome_of (Refused r) = record { refusal = number_of r; place = place_of r }
-
-unfoldable pub said_of : Outcome → Said
-said_of o = if_eq o.refusal 0 Whole (Refused (refusal_of o.refusal o.place))
 
 -- an address or none, in numbers, and what the numbers say
 abbrev pub insertion_of : Option ℕ → Insertion
@@ -48,18 +37,18 @@ mounted r table = record {
 }
 
 abbrev pub stands_for : Mounted → List Record → Answer meaning.Mounted
-stands_for r table = answer_by (said_of r.said) (mounted r table)
+stands_for r table = answer_by (λ x. mounted r table) (said_of r.said)
 
 -- a refusal shows nothing
 abbrev pub Silent : Mounted → Type 0
 Silent r = (r.records ≡ 0) × (r.runs ≡ 0) × (r.erase.count ≡ 0)
 
 -- the counts are within the arrays, and the used pages are those of the extents
-abbrev pub Sizes : Said → Geometry → Lent → Mounted → Type 0
-Sizes Whole g l r =
+abbrev pub Sizes : Result ⊤ Refusal → Geometry → Lent → Mounted → Type 0
+Sizes (Ok x) g l r =
     (r.records ≤ 256) × (r.runs ≤ 1024) × (r.erase.count ≤ 1024)
     × (r.used ≡ listed 1024 (used_bits g (image_of g l).labels (take r.runs r.extents)))
-Sizes (Refused x) g l r = Silent r
+Sizes (Err x) g l r = Silent r
 
 -- and there are no second numbers for how it ended, nor for the insertion point
 abbrev pub Sized : Geometry → Lent → Mounted → Type 0
@@ -71,10 +60,9 @@ Sized g l r =
 unfoldable pub mount_in : Geometry → Lent → ℕ → Answer meaning.Mounted
 mount_in g l places = if_true (eqb places 256) (mount_of g l) (no refused.Geometry)
 
--- the geometry by which to mount: with any other table none that slices fit
-pub record Housed (g : Geometry) (places : ℕ) (r : Geometry) : Type 0 where
-  pub same : places ≡ 256 → r ≡ g
-  pub none : (places ≡ 256 → ⊥) → r.size ≡ 0
+-- nothing beside the refusal
+abbrev pub Blank : Core → Refusal → Type 0
+Blank r x = (r.n ≡ 0) × Silent r.answer × (r.answer.said ≡ outcome_of (Err x)) × (r.answer.insertion ≡ insertion_of none)
 
 pub record Cored (g : Geometry) (l : Lent) (places : ℕ) (r : Core) : Type 0 where
   pub same : r.answer.records ≡ r.n

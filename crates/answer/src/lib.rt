@@ -2,19 +2,20 @@
 // is changed here.
 #![tactic(auto)]
 
-ghost use Rattle.std.specs.Prelude.{◌≡◌, ◌≤◌, map, length, take};
-ghost use Rattle.plan.specs.Select.{lent};
+ghost use Rattle.std.specs.Prelude.{◌≡◌, ◌≤◌, map, length, take, Err, IfOk};
+ghost use Rattle.label.specs.Lent.{lent_of};
 ghost use Rattle.extent.specs.Rows.{extent_of};
-ghost use Rattle.shown.specs.Shown.{place_of};
-ghost use Rattle.answer.specs.Mounted.{insertion_of, outcome_of, Cored, Housed};
+ghost use Rattle.shown.specs.Shown.{place_of, showing, Sized};
+ghost use Rattle.outcome.specs.Outcome.{outcome_of};
+ghost use Rattle.answer.specs.Mounted.{insertion_of, mount_in, Blank, Cored};
 
-use flash_log::insertion::Point;
-use meaning::{Extent, Geometry, Record};
+use label::Flash;
+use meaning::{Address, Extent, Record, Refusal};
 use outcome::Outcome;
-use replay::Said;
+use shown::Shown;
 use used::Erase;
 
-/// The insertion point: its address, where there is one.
+/// The insertion point: its address, where there is one. A count and a number, as a host in C takes it.
 #[repr(C)]
 #[derive(Clone, Copy)]
 pub struct Insertion {
@@ -23,7 +24,7 @@ pub struct Insertion {
     pub address: u64,
 }
 
-/// What a mount answers. The records stand in the lent table.
+/// What a mount answers. The records stand in the lent table. Arrays and counts, as a host in C takes them.
 #[repr(C)]
 #[derive(Drop)]
 pub struct Mounted {
@@ -51,44 +52,37 @@ pub struct Core {
 
 // ---- in numbers
 
-pub fn ended(said: Said) -> Outcome
-    ensures { result ≡ outcome_of said }
-{
-    match said {
-        Said::Whole => outcome::whole(),
-        Said::Refused(x) => outcome::refused(x),
+impl From<Option<Address>> for Insertion {
+    ghost from_gives = { λ p o. o ≡ insertion_of (place_of p) };
+
+    fn from(p: Option<Address>) -> Insertion {
+        match p {
+            Some(a) => Insertion {
+                count: 1,
+                address: a.0,
+            },
+            None => Insertion {
+                count: 0,
+                address: 0,
+            },
+        }
     }
 }
 
-fn insertion_at(p: Point) -> Insertion
-    ensures { result ≡ insertion_of (place_of p) }
-{
-    match p {
-        Point::At(a) => Insertion {
-            count: 1,
-            address: a.0,
-        },
-        Point::Nowhere => Insertion {
-            count: 0,
-            address: 0,
-        },
-    }
-}
+const NO_EXTENT: Extent = Extent {
+    path: 0,
+    offset: 0,
+    count: 0,
+    address: 0,
+};
 
 // The first n rows.
 fn extents_of(rows: &[[u32; 4]], n: usize) -> [Extent; 1024]
     requires { (n ≤ 1024) × (n ≤ length rows.now) }
     ensures { take n result ≡ map extent_of (take n rows.now) }
 {
-    let zero = Extent {
-        path: 0,
-        offset: 0,
-        count: 0,
-        address: 0,
-    };
-    let mut extents = [zero; 1024];
-    let mut k: usize = 0;
-    while k < n {
+    let mut extents = [NO_EXTENT; 1024];
+    for k in 0..n {
         let row = rows[k];
         extents[k] = Extent {
             path: row[0],
@@ -96,54 +90,75 @@ fn extents_of(rows: &[[u32; 4]], n: usize) -> [Extent; 1024]
             count: row[2],
             address: row[3],
         };
-        k += 1;
     }
     extents
 }
 
-// GEOMETRY: "a slice length is wrong". A table that has not 256 places is refused as a geometry that no slices fit: a mount goes one
-// way to its answer, so that the answer is copied no more than it must be.
-fn within(g: Geometry, places: usize) -> Geometry
-    ensures { Housed g places result }
+// ---- the answer
+
+// GEOMETRY: "a slice length is wrong": a table that has not 256 places is refused.
+fn show_in(flash: &Flash, places: usize, rows: &mut [[u32; 4]]) -> Result<Shown, Refusal>
+    requires { 1024 ≤ length rows.old }
+    ensures shows { showing result rows.new ≡ mount_in flash.now.geometry (lent_of flash.now) places }
+    ensures sized { Sized flash.now.geometry (lent_of flash.now) result rows.new }
+    ensures room { IfOk result (λ s. s.files ≤ places) }
 {
     if places != 256 {
-        return Geometry {
-            size: 0,
-            pages: 0,
-            blocks: 0,
-        };
+        return Err(Refusal::Geometry);
     }
-    g
+    shown::show(flash, rows)
 }
 
-/// All that a mount shows, where the table has so many places; any but 256 are refused. A refusal has no records.
-pub fn show_all(g: Geometry, tags: &[u8], paths: &[u64], contents: &[u8], places: usize) -> Core
-    ensures { Cored g (lent tags.now paths.now contents.now) places result }
+// A refusal has no records, and nothing beside it.
+fn refused(x: Refusal) -> Core
+    ensures { Blank result x }
 {
-    let h = within(g, places);
-    let mut rows = [[0u32; 4]; 1024];
-    let s = shown::show(h, tags, paths, contents, &mut rows);
-    let extents = extents_of(&rows, s.extents);
-    let all = s.records;
-    let used = s.used;
-    let erase = s.erase;
-    let at = s.insertion;
-    let insertion = insertion_at(at);
-    let how = s.said;
-    let said = ended(how);
     Core {
-        all,
-        n: s.files,
+        all: shown::blank(),
+        n: 0,
         answer: Mounted {
-            records: s.files,
-            extents,
-            runs: s.extents,
-            used,
-            erase,
-            insertion,
-            applied: s.applied,
-            ignored: s.ignored,
-            said,
+            said: Outcome::from(x),
+            records: 0,
+            applied: 0,
+            ignored: 0,
+            insertion: Insertion::from(None),
+            erase: Erase::none(),
+            used: [0; 1024],
+            runs: 0,
+            extents: [NO_EXTENT; 1024],
         },
+    }
+}
+
+/// All that a mount shows, where the table has so many places; any but 256 are refused.
+pub fn show_all(flash: &Flash, places: usize) -> Core
+    ensures { Cored flash.now.geometry (lent_of flash.now) places result }
+{
+    let mut rows = [[0u32; 4]; 1024];
+    match show_in(flash, places, &mut rows) {
+        Err(x) => refused(x),
+        Ok(s) => {
+            let extents = extents_of(&rows, s.extents);
+            let all = s.records;
+            let used = s.used;
+            let erase = s.erase;
+            let insertion = Insertion::from(s.insertion);
+            let said = Outcome::from(Ok(()));
+            Core {
+                all,
+                n: s.files,
+                answer: Mounted {
+                    records: s.files,
+                    extents,
+                    runs: s.extents,
+                    used,
+                    erase,
+                    insertion,
+                    applied: s.applied,
+                    ignored: s.ignored,
+                    said,
+                },
+            }
+        }
     }
 }

@@ -1,4 +1,3 @@
--- Laws of the changes: by kind of message, against document 01's step, and of the rows.
-pub mod Edits
+-- Laws of the changes: against document 01's step, and of the rows.
 pub mod Steps
 pub mod Rooms

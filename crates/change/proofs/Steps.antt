@@ -7,6 +7,7 @@ use mathlib.Core.List.{List, [], ◌∷◌}
 use native.Mathlib.Omega.{arith}
 use lib.ListN.{length}
 use mathlib.Core.Logic.{◌≢◌, ⊎_elim}
+use Rattle.std.specs.Prelude.{Some, None}
 use Rattle.base.proofs.Tests.{eq_or, zero_one}
 use Rattle.base.proofs.Choices.{eq_yes, eq_no}
 use Rattle.base.specs.Choice.{if_true, if_eq, on_some, is_some}
@@ -24,8 +25,6 @@ use Rattle.tree.proofs.Judged as judged
 use Rattle.tree.proofs.Judged.{not_emptied, created_there, created_absent, removed_absent, truncated_there, truncated_absent, written_there, written_absent, restated_there, restated_absent}
 use Rattle.change.specs.declared.edit.Edit.{Edit}
 use Rattle.change.specs.declared.edit.Edit.TheVariants.{Ignored, Written, Truncated, Restated, Removed}
-use Rattle.change.specs.declared.edit.Made.{Made}
-use Rattle.change.specs.declared.edit.Made.TheVariants.{File, Nothing}
 use Rattle.change.specs.Edit.{subject, edit_if, edit_of, newborn, stamped_by}
 
 -- ---- edits and verdicts
@@ -52,12 +51,8 @@ run_of (Written run q) = run
 run_of (Truncated q) = record { path = 0; offset = 0; count = 0; address = 0 }
 run_of (Restated q) = record { path = 0; offset = 0; count = 0; address = 0 }
 
-abbrev born : Made → ℕ
-born (File q) = 0
-born Nothing = 1
-
 ignored_removed : Ignored ≡ Removed → ⊥
-ignored_removed e = zero_one (ap rank e)
+ignored_removed e = cc
 
 -- what an edit says of the test behind it
 applied_if : (b : Bool) (e : Edit) → 1 < rank (edit_if b e) → b ≡ true
@@ -240,20 +235,19 @@ module _ (fs : List Record) (f : Record) where
 -- ---- no file of its path is there
 
 module _ (fs : List Record) where
-  pub unborn : (m : Message) → look (subject m) fs ≡ none → newborn m ≡ Nothing → applies (judge m fs) ≡ false
+  pub unborn : (m : Message) → look (subject m) fs ≡ none → newborn m ≡ None → applies (judge m fs) ≡ false
   unfolding subject newborn applies
-  unborn (Create parent perm path mtime cvers name uid gid) l e = absurd (zero_one (ap born e))
+  unborn (Create parent perm path mtime cvers name uid gid) l e = absurd (cc)
   unborn (Remove path muid mtime) l e = ap applies (removed_absent fs path mtime muid l)
   unborn (Truncate path mtime cvers muid) l e = ap applies (truncated_absent fs path mtime cvers muid l)
   unborn (Write run mtime muid cvers) l e = ap applies (written_absent fs run mtime cvers muid l)
   unborn (Wstat path name uid gid muid perm mtime) l e = ap applies (restated_absent fs path name perm uid gid mtime muid l)
 
-abbrev file_of : Made → Record
-file_of (File q) = q
-file_of Nothing = root
+not_made : (q : Record) → None ≡ Some q → ⊥
+not_made q e = cc
 
-not_made : (q : Record) → Nothing ≡ File q → ⊥
-not_made q e = zero_one (ap born (sym e))
+made : {q r : Record} → Some q ≡ Some r → q ≡ r
+made e = cc
 
 -- a create of a path that is free, under a directory or not
 under : (o : Option Record) (d : Record) → o ≡ none → is_dir d ≡ true → applies (judge_create d (is_some o)) ≡ true
@@ -265,51 +259,51 @@ unfolding judge_create applies if_true
 not_under b d h = rw h
 
 module _ (fs : List Record) (q d : Record) where
-  pub no_parent : (m : Message) → newborn m ≡ File q → look q.parent fs ≡ none → applies (judge m fs) ≡ false
+  pub no_parent : (m : Message) → newborn m ≡ Some q → look q.parent fs ≡ none → applies (judge m fs) ≡ false
   unfolding newborn applies created
   no_parent (Create parent perm path mtime cvers name uid gid) e l =
-      ap applies (created_absent fs parent perm path mtime cvers name uid gid (ap (λ (r : Record). look r.parent fs) (ap file_of e) ∙ l))
+      ap applies (created_absent fs parent perm path mtime cvers name uid gid (ap (λ (r : Record). look r.parent fs) (made e) ∙ l))
   no_parent (Remove path muid mtime) e l = absurd (not_made q e)
   no_parent (Truncate path mtime cvers muid) e l = absurd (not_made q e)
   no_parent (Write run mtime muid cvers) e l = absurd (not_made q e)
   no_parent (Wstat path name uid gid muid perm mtime) e l = absurd (not_made q e)
 
-  pub no_directory : (m : Message) → newborn m ≡ File q → look q.parent fs ≡ some d → is_dir d ≡ false → applies (judge m fs) ≡ false
+  pub no_directory : (m : Message) → newborn m ≡ Some q → look q.parent fs ≡ some d → is_dir d ≡ false → applies (judge m fs) ≡ false
   unfolding newborn created
   no_directory (Create parent perm path mtime cvers name uid gid) e l h =
-      ap applies (created_there fs parent perm path mtime cvers name uid gid d (ap (λ (r : Record). look r.parent fs) (ap file_of e) ∙ l)) ∙ not_under (is_some (look path fs)) d h
+      ap applies (created_there fs parent perm path mtime cvers name uid gid d (ap (λ (r : Record). look r.parent fs) (made e) ∙ l)) ∙ not_under (is_some (look path fs)) d h
   no_directory (Remove path muid mtime) e l h = absurd (not_made q e)
   no_directory (Truncate path mtime cvers muid) e l h = absurd (not_made q e)
   no_directory (Write run mtime muid cvers) e l h = absurd (not_made q e)
   no_directory (Wstat path name uid gid muid perm mtime) e l h = absurd (not_made q e)
 
-  pub born_there : (m : Message) → newborn m ≡ File q → look (subject m) fs ≡ none → look q.parent fs ≡ some d → is_dir d ≡ true → applies (judge m fs) ≡ true
+  pub born_there : (m : Message) → newborn m ≡ Some q → look (subject m) fs ≡ none → look q.parent fs ≡ some d → is_dir d ≡ true → applies (judge m fs) ≡ true
   unfolding newborn created subject
   born_there (Create parent perm path mtime cvers name uid gid) e f l h =
-      ap applies (created_there fs parent perm path mtime cvers name uid gid d (ap (λ (r : Record). look r.parent fs) (ap file_of e) ∙ l)) ∙ under (look path fs) d f h
+      ap applies (created_there fs parent perm path mtime cvers name uid gid d (ap (λ (r : Record). look r.parent fs) (made e) ∙ l)) ∙ under (look path fs) d f h
   born_there (Remove path muid mtime) e f l h = absurd (not_made q e)
   born_there (Truncate path mtime cvers muid) e f l h = absurd (not_made q e)
   born_there (Write run mtime muid cvers) e f l h = absurd (not_made q e)
   born_there (Wstat path name uid gid muid perm mtime) e f l h = absurd (not_made q e)
 
 module _ (q : Record) where
-  pub born_path : (m : Message) → newborn m ≡ File q → q.path ≡ subject m
+  pub born_path : (m : Message) → newborn m ≡ Some q → q.path ≡ subject m
   unfolding newborn created subject
-  born_path (Create parent perm path mtime cvers name uid gid) e = ap (λ (r : Record). r.path) (sym (ap file_of e))
+  born_path (Create parent perm path mtime cvers name uid gid) e = ap (λ (r : Record). r.path) (sym (made e))
   born_path (Remove path muid mtime) e = absurd (not_made q e)
   born_path (Truncate path mtime cvers muid) e = absurd (not_made q e)
   born_path (Write run mtime muid cvers) e = absurd (not_made q e)
   born_path (Wstat path name uid gid muid perm mtime) e = absurd (not_made q e)
 
-  pub born_records : (m : Message) (fs : List Record) → newborn m ≡ File q → records_after m fs ≡ insert q fs
+  pub born_records : (m : Message) (fs : List Record) → newborn m ≡ Some q → records_after m fs ≡ insert q fs
   unfolding newborn records_after parent_after own_after
-  born_records (Create parent perm path mtime cvers name uid gid) fs e = ap (λ (r : Record). insert r fs) (ap file_of e)
+  born_records (Create parent perm path mtime cvers name uid gid) fs e = ap (λ (r : Record). insert r fs) (made e)
   born_records (Remove path muid mtime) fs e = absurd (not_made q e)
   born_records (Truncate path mtime cvers muid) fs e = absurd (not_made q e)
   born_records (Write run mtime muid cvers) fs e = absurd (not_made q e)
   born_records (Wstat path name uid gid muid perm mtime) fs e = absurd (not_made q e)
 
-  pub born_extents : (m : Message) (xs : List Extent) → newborn m ≡ File q → extents_after m xs ≡ xs
+  pub born_extents : (m : Message) (xs : List Extent) → newborn m ≡ Some q → extents_after m xs ≡ xs
   unfolding newborn extents_after
   born_extents (Create parent perm path mtime cvers name uid gid) xs e = refl
   born_extents (Remove path muid mtime) xs e = absurd (not_made q e)

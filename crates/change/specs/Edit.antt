@@ -1,5 +1,5 @@
 -- What a message would do, by the file that bears its path.
-use Rattle.std.specs.Prelude.{ℕ, Bool}
+use Rattle.std.specs.Prelude.{ℕ, Bool, Option, Some, None}
 use Rattle.meaning.specs.declared.Message.{Message}
 use Rattle.meaning.specs.declared.Message.TheVariants.{Create, Remove, Truncate, Write, Wstat}
 use Rattle.meaning.specs.declared.Record.{Record}
@@ -8,8 +8,6 @@ use Rattle.meaning.specs.Replay.{applies, created, truncated, written, restated,
 use Rattle.tree.specs.Judge.{judge_truncate, judge_write, judge_wstat}
 use Rattle.change.specs.declared.edit.Edit.{Edit}
 use Rattle.change.specs.declared.edit.Edit.TheVariants.{Ignored, Written, Truncated, Restated, Removed}
-use Rattle.change.specs.declared.edit.Made.{Made}
-use Rattle.change.specs.declared.edit.Made.TheVariants.{File, Nothing}
 
 -- the path of the file that a message speaks of
 unfoldable pub subject : Message → ℕ
@@ -32,12 +30,12 @@ edit_of (Write run mtime muid cvers) f = edit_if (applies (judge_write f cvers))
 edit_of (Wstat path name uid gid muid perm mtime) f = edit_if (applies (judge_wstat path f name perm)) (Restated (restated name perm uid gid mtime muid f))
 
 -- the record of a new file, where there is none of that path
-unfoldable pub newborn : Message → Made
-newborn (Create parent perm path mtime cvers name uid gid) = File (created parent perm path mtime cvers name uid gid)
-newborn (Remove path muid mtime) = Nothing
-newborn (Truncate path mtime cvers muid) = Nothing
-newborn (Write run mtime muid cvers) = Nothing
-newborn (Wstat path name uid gid muid perm mtime) = Nothing
+unfoldable pub newborn : Message → Option Record
+newborn (Create parent perm path mtime cvers name uid gid) = Some (created parent perm path mtime cvers name uid gid)
+newborn (Remove path muid mtime) = None
+newborn (Truncate path mtime cvers muid) = None
+newborn (Write run mtime muid cvers) = None
+newborn (Wstat path name uid gid muid perm mtime) = None
 
 -- what the parent takes of a remove
 unfoldable pub stamped_by : Message → Record → Record

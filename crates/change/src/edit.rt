@@ -1,4 +1,6 @@
 // What a message would do: the path that it speaks of, and what it makes of the record there.
+#![tactic(auto, unfolding(base::specs::Choice::if_true, base::specs::Choice::if_eq, crate::specs::Edit::subject, crate::specs::Edit::edit_if, crate::specs::Edit::edit_of, crate::specs::Edit::newborn, crate::specs::Edit::stamped_by))]
+
 ghost use Rattle.std.specs.Prelude.{◌≡◌, ◌+◌, ◌^◌, ◌<◌};
 ghost use Rattle.flash_log.specs.Cursor.{Ranged};
 ghost use Rattle.meaning.specs.Replay.{applies, restated, truncated, written};
@@ -22,23 +24,16 @@ pub enum Edit {
     Removed,
 }
 
-/// The record that a message makes, if it makes one.
-#[derive(Clone, Copy)]
-pub enum Made {
-    File(Record),
-    Nothing,
-}
-
 /// The path of the file that a message speaks of.
 pub fn path_of(m: Message) -> u32
     ensures { (result ≡ subject m) × (result < 2 ^ 32) }
 {
     match m {
-        Message::Create { path, .. } => path,
-        Message::Remove { path, .. } => path,
-        Message::Truncate { path, .. } => path,
+        Message::Create { path, .. }
+        | Message::Remove { path, .. }
+        | Message::Truncate { path, .. }
+        | Message::Wstat { path, .. } => path,
         Message::Write { run, .. } => run.path,
-        Message::Wstat { path, .. } => path,
     }
 }
 
@@ -46,10 +41,10 @@ fn truncation(f: Record, mtime: u32, cvers: u32, muid: Place) -> Edit
     ensures { result ≡ edit_if (applies (judge_truncate f)) (Truncated (truncated mtime cvers muid f)) }
 {
     if tree::applies(tree::judge_truncate(f)) {
-        let q = tree::truncated(f, mtime, cvers, muid);
-        return Edit::Truncated(q);
+        Edit::Truncated(tree::truncated(f, mtime, cvers, muid))
+    } else {
+        Edit::Ignored
     }
-    Edit::Ignored
 }
 
 fn write(f: Record, run: Extent, mtime: u32, muid: Place, cvers: u32) -> Edit
@@ -57,12 +52,13 @@ fn write(f: Record, run: Extent, mtime: u32, muid: Place, cvers: u32) -> Edit
     ensures { result ≡ edit_if (applies (judge_write f cvers)) (Written run (written run mtime muid f)) }
 {
     if tree::applies(tree::judge_write(f, cvers)) {
-        let q = tree::written(f, run, mtime, muid);
-        return Edit::Written(run, q);
+        Edit::Written(run, tree::written(f, run, mtime, muid))
+    } else {
+        Edit::Ignored
     }
-    Edit::Ignored
 }
 
+// The fields of the message, each once.
 fn restatement(
     f: Record,
     path: u32,
@@ -76,10 +72,10 @@ fn restatement(
     ensures { result ≡ edit_if (applies (judge_wstat path f name perm)) (Restated (restated name perm uid gid mtime muid f)) }
 {
     if tree::applies(tree::judge_wstat(path, f, name, perm)) {
-        let q = tree::restated(f, name, perm, uid, gid, mtime, muid);
-        return Edit::Restated(q);
+        Edit::Restated(tree::restated(f, name, perm, uid, gid, mtime, muid))
+    } else {
+        Edit::Ignored
     }
-    Edit::Ignored
 }
 
 /// Where the file f of its path is there. Each kind has an answer of its own: what a message is is asked once.
@@ -89,28 +85,20 @@ pub fn edit_of(m: Message, f: Record) -> Edit
 {
     match m {
         Message::Create { .. } => Edit::Ignored,
-        Message::Remove { path, .. } => {
-            if path == 0 {
-                return Edit::Ignored;
-            }
-            return Edit::Removed;
-        }
+        Message::Remove { path: 0, .. } => Edit::Ignored,
+        Message::Remove { .. } => Edit::Removed,
         Message::Truncate {
             mtime,
             cvers,
             muid,
             ..
-        } => {
-            return truncation(f, mtime, cvers, muid);
-        }
+        } => truncation(f, mtime, cvers, muid),
         Message::Write {
             run,
             mtime,
             muid,
             cvers,
-        } => {
-            return write(f, run, mtime, muid, cvers);
-        }
+        } => write(f, run, mtime, muid, cvers),
         Message::Wstat {
             path,
             name,
@@ -119,14 +107,12 @@ pub fn edit_of(m: Message, f: Record) -> Edit
             muid,
             perm,
             mtime,
-        } => {
-            return restatement(f, path, name, perm, uid, gid, mtime, muid);
-        }
+        } => restatement(f, path, name, perm, uid, gid, mtime, muid),
     }
 }
 
-/// Where no file of its path is there.
-pub fn made_by(m: Message) -> Made
+/// The record that a message makes where no file of its path is there, if it makes one.
+pub fn made_by(m: Message) -> Option<Record>
     ensures { result ≡ newborn m }
 {
     match m {
@@ -139,14 +125,8 @@ pub fn made_by(m: Message) -> Made
             name,
             uid,
             gid,
-        } => {
-            let q = tree::created(parent, perm, path, mtime, cvers, name, uid, gid);
-            return Made::File(q);
-        }
-        Message::Remove { .. } => Made::Nothing,
-        Message::Truncate { .. } => Made::Nothing,
-        Message::Write { .. } => Made::Nothing,
-        Message::Wstat { .. } => Made::Nothing,
+        } => Some(tree::created(parent, perm, path, mtime, cvers, name, uid, gid)),
+        _ => None,
     }
 }
 
@@ -155,12 +135,7 @@ pub fn stamped_by(m: Message, f: Record) -> Record
     ensures { result ≡ stamped_by m f }
 {
     match m {
-        Message::Remove { mtime, muid, .. } => {
-            return tree::stamped(f, mtime, muid);
-        }
-        Message::Create { .. } => f,
-        Message::Truncate { .. } => f,
-        Message::Write { .. } => f,
-        Message::Wstat { .. } => f,
+        Message::Remove { mtime, muid, .. } => tree::stamped(f, mtime, muid),
+        _ => f,
     }
 }

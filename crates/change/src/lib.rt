@@ -5,5 +5,5 @@
 mod edit;
 mod room;
 
-pub use edit::{Edit, Made, edit_of, made_by, path_of, stamped_by};
+pub use edit::{Edit, edit_of, made_by, path_of, stamped_by};
 pub use room::{Room, clear, lay_run};

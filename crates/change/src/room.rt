@@ -6,6 +6,7 @@ ghost use Rattle.runs.specs.Runs.{gather, Live};
 ghost use Rattle.change.specs.Room.{Stands, Some, Turns};
 
 use meaning::Extent;
+use runs::Span;
 
 /// Where free rows begin, and how many extents there are.
 #[derive(Clone, Copy)]
@@ -14,9 +15,10 @@ pub struct Room {
     pub used: usize,
 }
 
-/// A run is laid over the older extents of its file.
+/// A run is laid over the older extents of its file. The rows are lent, and the slots are in the tree that owns the records: two lenders,
+/// so no struct holds both.
 pub fn lay_run(
-    spans: &mut [[u32; 3]],
+    spans: &mut [Span],
     rows: &mut [[u32; 4]],
     scratch: &mut [[u32; 4]],
     slots: &[u32; 256],
@@ -45,7 +47,7 @@ pub fn lay_run(
 
 /// The file has no extents then.
 pub fn clear(
-    spans: &mut [[u32; 3]],
+    spans: &mut [Span],
     rows: &[[u32; 4]],
     slots: &[u32; 256],
     n: usize,

@@ -1,50 +1,26 @@
 // Lent slices copied, so that a service can be tried on a copy of an image. What has no room is left out.
 #![tactic(auto)]
 
-ghost use Rattle.std.specs.Prelude.{◌≡◌};
+ghost use Rattle.std.specs.Prelude.{◌≡◌, ◌++◌, length, take, drop};
 ghost use Rattle.step.specs.Done.{written};
 
-// Tags, or contents.
-fn put_bytes(to: &mut [u8], from: &[u8])
-    ensures { to.new ≡ written to.old from.now }
-{
-    let mut i = 0;
-    while i < from.len() {
-        if to.len() <= i {
-            return;
-        }
-        to[i] = from[i];
-        i += 1;
-    }
-}
+use label::Flash;
 
-fn put_paths(to: &mut [u64], from: &[u64])
-    ensures { to.new ≡ written to.old from.now }
+fn put<T: Copy>(to: &mut [T], from: &[T])
+    ensures { to.new ≡ take (length to.old) from.now ++ drop (length from.now) to.old }
 {
-    let mut i = 0;
-    while i < from.len() {
-        if to.len() <= i {
-            return;
-        }
-        to[i] = from[i];
-        i += 1;
-    }
+    let n = to.len().min(from.len());
+    to[..n].copy_from_slice(&from[..n]);
 }
 
 /// The tags, paths and contents of an image, copied to ts, ps and xs.
-pub fn image(
-    tags: &[u8],
-    paths: &[u64],
-    contents: &[u8],
-    ts: &mut [u8],
-    ps: &mut [u64],
-    xs: &mut [u8],
-)
-    ensures ts_after { ts.new ≡ written ts.old tags.now }
-    ensures ps_after { ps.new ≡ written ps.old paths.now }
-    ensures xs_after { xs.new ≡ written xs.old contents.now }
+#[tactic(auto, unfolding(step::specs::Done::written))]
+pub fn image(flash: &Flash, ts: &mut [u8], ps: &mut [u64], xs: &mut [u8])
+    ensures ts_after { ts.new ≡ written ts.old flash.now.tags.now }
+    ensures ps_after { ps.new ≡ written ps.old flash.now.paths.now }
+    ensures xs_after { xs.new ≡ written xs.old flash.now.contents.now }
 {
-    put_bytes(ts, tags);
-    put_paths(ps, paths);
-    put_bytes(xs, contents);
+    put(ts, flash.tags);
+    put(ps, flash.paths);
+    put(xs, flash.contents);
 }

@@ -1,197 +1,48 @@
 // Whether a cut image shows what the image showed before: the listing, and the bytes of the files.
-ghost use Rattle.std.specs.Prelude.{◌≤◌};
+use label::Flash;
+use meaning::Record;
 
-use file::Outcome;
-use meaning::{Geometry, Record};
-
-/// The files of the image before the first step.
+/// What the image showed before the first step: its listing, and its files.
 #[derive(Clone, Copy)]
-pub struct Before {
-    pub records: [Record; 256],
-    pub files: usize,
+pub struct Before<'a> {
+    pub listed: &'a [u8],
+    pub files: &'a [Record],
 }
 
-fn least(a: usize, b: usize) -> usize
-    ensures { (result ≤ a) × (result ≤ b) }
-{
-    if a < b {
-        return a;
-    }
-    b
-}
-
-pub fn files_of(g: Geometry, tags: &[u8], paths: &[u64], contents: &[u8]) -> Before
-    ensures { result.files ≤ 256 }
-{
-    let mut rows = [[0u32; 4]; 1024];
-    let r = shown::show(g, tags, paths, contents, &mut rows);
-    let records = r.records;
-    Before {
-        records,
-        files: least(r.files, 256),
+fn same_listing(cut: &Flash, listed: &[u8]) -> bool {
+    let mut out = [0u8; 327680];
+    let n = lister::put_listing(&mut out, 0, cut);
+    match out.get(..n) {
+        None => false,
+        Some(now) => listed == now,
     }
 }
 
-// Whether the listing of an image is the one before.
-fn same_listing(
-    g: Geometry,
-    tags: &[u8],
-    paths: &[u64],
-    contents: &[u8],
-    listed: &[u8],
-    out: &mut [u8],
-) -> bool {
-    let n = lister::put_listing(out, 0, g, tags, paths, contents);
-    if out.len() < n {
-        return false;
-    }
-    check::same(listed, &out[0..n])
-}
-
-// How many bytes were read; 1024, more than are ever asked for, after a refusal.
-fn count_of(r: Outcome) -> usize {
-    match r {
-        Outcome::Read(n) => n,
-        Outcome::Refused(_) => 1024,
-    }
-}
-
-fn same_piece(
-    g: Geometry,
-    tags: &[u8],
-    paths: &[u64],
-    contents: &[u8],
-    cut_tags: &[u8],
-    cut_paths: &[u64],
-    cut_contents: &[u8],
-    path: u32,
-    offset: u64,
-) -> bool {
+fn same_piece(flash: &Flash, cut: &Flash, path: u32, x: u64) -> bool {
     let mut a = [0u8; 512];
     let mut b = [0u8; 512];
-    let m = count_of(file::read(g, tags, paths, contents, path as u64, offset, &mut a));
-    let n = count_of(file::read(
-        g,
-        cut_tags,
-        cut_paths,
-        cut_contents,
-        path as u64,
-        offset,
-        &mut b,
-    ));
-    if 512 < m {
-        return false;
+    let read = file::read(flash, u64::from(path), x, &mut a);
+    match (read, file::read(cut, u64::from(path), x, &mut b)) {
+        (Ok(m), Ok(n)) => m == n && a == b,
+        _ => false,
     }
-    if m != n {
-        return false;
-    }
-    check::same(&a, &b)
 }
 
-fn same_file(
-    g: Geometry,
-    tags: &[u8],
-    paths: &[u64],
-    contents: &[u8],
-    cut_tags: &[u8],
-    cut_paths: &[u64],
-    cut_contents: &[u8],
-    path: u32,
-    length: u32,
-) -> bool {
-    let n = length as u64;
-    let mut x: u64 = 0;
-    while x < n {
-        if !same_piece(
-            g,
-            tags,
-            paths,
-            contents,
-            cut_tags,
-            cut_paths,
-            cut_contents,
-            path,
-            x,
-        ) {
+fn same_bytes(flash: &Flash, cut: &Flash, path: u32, length: u32) -> bool {
+    for piece in 0..u64::from(length).div_ceil(512) {
+        if !same_piece(flash, cut, path, 512 * piece) {
             return false;
         }
-        x += 512;
     }
     true
 }
 
 // A folder has no bytes.
-fn bytes_in(f: Record) -> u32 {
-    if tree::is_dir(f.perm) {
-        return 0;
-    }
-    f.length
+fn same_file(flash: &Flash, cut: &Flash, f: &Record) -> bool {
+    tree::is_dir(f.perm) || same_bytes(flash, cut, f.path, f.length)
 }
 
-// Whether every plain file reads back as before.
-fn same_files(
-    g: Geometry,
-    tags: &[u8],
-    paths: &[u64],
-    contents: &[u8],
-    cut_tags: &[u8],
-    cut_paths: &[u64],
-    cut_contents: &[u8],
-    records: [Record; 256],
-    n: usize,
-) -> bool
-    requires { n ≤ 256 }
-{
-    let mut i: usize = 0;
-    while i < n {
-        let f = records[i];
-        let length = bytes_in(f);
-        if !same_file(
-            g,
-            tags,
-            paths,
-            contents,
-            cut_tags,
-            cut_paths,
-            cut_contents,
-            f.path,
-            length,
-        ) {
-            return false;
-        }
-        i += 1;
-    }
-    true
-}
-
-/// Whether a cut image shows the same as before.
-pub fn shows_same(
-    g: Geometry,
-    tags: &[u8],
-    paths: &[u64],
-    contents: &[u8],
-    cut_tags: &[u8],
-    cut_paths: &[u64],
-    cut_contents: &[u8],
-    before: Before,
-    listed: &[u8],
-    out: &mut [u8],
-) -> bool
-    requires { before.files ≤ 256 }
-{
-    if !same_listing(g, cut_tags, cut_paths, cut_contents, listed, out) {
-        return false;
-    }
-    let records = before.records;
-    same_files(
-        g,
-        tags,
-        paths,
-        contents,
-        cut_tags,
-        cut_paths,
-        cut_contents,
-        records,
-        before.files,
-    )
+/// Whether a cut image shows the same as before: the listing, and every plain file.
+pub fn shows_same(flash: &Flash, cut: &Flash, before: &Before) -> bool {
+    same_listing(cut, before.listed) && before.files.iter().all(|f| same_file(flash, cut, f))
 }

@@ -5,235 +5,103 @@
 mod judge;
 mod junk;
 mod lists;
+mod spare;
 
-ghost use Rattle.std.specs.Prelude.{◌<◌, ◌≤◌};
-ghost use Rattle.reclaim.specs.Reclaimed.{Listing};
+ghost use Rattle.std.specs.Prelude.{◌≡◌, ◌+◌, ◌-◌, ◌%◌, ◌^◌, ◌≤◌, length};
 
-pub use judge::{Before, files_of};
-pub use lists::{erases, label_first};
-use meaning::{Geometry, Step};
-use reclaim::Steps;
+pub use judge::Before;
+use junk::Junk;
+use label::{Flash, Label};
+pub use lists::label_first;
+use meaning::Step;
+pub use spare::{Spare, reclaim, settle};
 
-// How many cut states were tried, and how many of them showed the same.
+// The path of a free block, 2^34 − 1.
+const FREE: u64 = 17179869183;
+
+/// How many cut states were tried, and how many of them showed the same.
 #[derive(Clone, Copy)]
 pub struct Tried {
     pub cuts: u64,
     pub same: u64,
 }
 
-pub fn nothing() -> Tried {
-    Tried { cuts: 0, same: 0 }
-}
-
-fn count(t: Tried, same: bool) -> Tried {
-    let cuts = std::num::wrapping_add_u64(t.cuts, 1);
-    if same {
-        return Tried {
-            cuts,
-            same: std::num::wrapping_add_u64(t.same, 1),
-        };
+impl Tried {
+    pub fn none() -> Tried
+        ensures { (result.cuts ≡ 0) × (result.same ≡ 0) }
+    {
+        Tried { cuts: 0, same: 0 }
     }
-    Tried { cuts, same: t.same }
-}
 
-pub fn sum(a: Tried, b: Tried) -> Tried {
-    Tried {
-        cuts: std::num::wrapping_add_u64(a.cuts, b.cuts),
-        same: std::num::wrapping_add_u64(a.same, b.same),
+    fn one(same: bool) -> Tried {
+        Tried {
+            cuts: 1,
+            same: u64::from(same),
+        }
     }
-}
 
-// ---- one cut state
+    pub fn and(self, more: Tried) -> Tried
+        ensures { (result.cuts ≡ (self.cuts + more.cuts) % 2 ^ 64) × (result.same ≡ (self.same + more.same) % 2 ^ 64) }
+    {
+        Tried {
+            cuts: self.cuts.wrapping_add(more.cuts),
+            same: self.same.wrapping_add(more.same),
+        }
+    }
 
-fn do_first(
-    g: Geometry,
-    tags: &mut [u8],
-    paths: &mut [u64],
-    contents: &mut [u8],
-    l: Steps,
-    k: usize,
-)
-    requires { Listing 35 l × (k ≤ 35) }
-{
-    let mut i: usize = 0;
-    while i < k {
-        let s = lists::step_at(l, i);
-        step::do_step(g, tags, paths, contents, s);
-        i += 1;
+    /// How many did not show the same.
+    pub fn differ(self) -> u64
+        ensures { self.same ≤ self.cuts → result ≡ self.cuts - self.same }
+    {
+        self.cuts.wrapping_sub(self.same)
     }
 }
 
-// The first k steps are done, and the power goes. In state 0 that is between two steps. Else the next is cut short: states 1 to 4 leave
-// junk in the block under work and its label as it was; 5 to 8, which only an erase has, leave junk and a free label.
-fn cut(
-    g: Geometry,
-    tags: &mut [u8],
-    paths: &mut [u64],
-    contents: &mut [u8],
-    l: Steps,
-    k: usize,
-    state: u8,
-)
-    requires { Listing 35 l × (k ≤ 35) }
-{
-    do_first(g, tags, paths, contents, l, k);
-    if state == 0 {
-        return;
-    }
-    let s = lists::step_at(l, k);
-    let block = lists::under_work(s);
-    junk::spoil(g, contents, block, (state - 1) % 4);
-    if 4 < state {
-        let free = Step::LabelWrite {
-            block,
-            tag: 0xff,
-            path: 17179869183,
-        };
-        step::do_step(g, tags, paths, contents, free);
-    }
-}
-
-fn cut_copy(
-    g: Geometry,
-    tags: &[u8],
-    paths: &[u64],
-    contents: &[u8],
-    cut_tags: &mut [u8],
-    cut_paths: &mut [u64],
-    cut_contents: &mut [u8],
-    l: Steps,
-    k: usize,
-    state: u8,
-)
-    requires { Listing 35 l × (k ≤ 35) }
-{
-    copy::image(tags, paths, contents, cut_tags, cut_paths, cut_contents);
-    cut(g, cut_tags, cut_paths, cut_contents, l, k, state);
-}
-
-// Whether what is left shows the same as before.
-fn try_state(
-    g: Geometry,
-    tags: &[u8],
-    paths: &[u64],
-    contents: &[u8],
-    cut_tags: &mut [u8],
-    cut_paths: &mut [u64],
-    cut_contents: &mut [u8],
-    l: Steps,
-    k: usize,
-    state: u8,
-    before: Before,
-    listed: &[u8],
-    out: &mut [u8],
-) -> bool
-    requires { Listing 35 l × (k ≤ 35) × (before.files ≤ 256) }
-{
-    cut_copy(
-        g,
-        tags,
-        paths,
-        contents,
-        cut_tags,
-        cut_paths,
-        cut_contents,
-        l,
-        k,
-        state,
-    );
-    judge::shows_same(
-        g,
-        tags,
-        paths,
-        contents,
-        cut_tags,
-        cut_paths,
-        cut_contents,
-        before,
-        listed,
-        out,
-    )
-}
-
-// ---- a list of steps
-
-// Every state of a cut after k steps.
-fn try_step(
-    g: Geometry,
-    tags: &[u8],
-    paths: &[u64],
-    contents: &[u8],
-    cut_tags: &mut [u8],
-    cut_paths: &mut [u64],
-    cut_contents: &mut [u8],
-    l: Steps,
-    k: usize,
-    before: Before,
-    listed: &[u8],
-    out: &mut [u8],
-) -> Tried
-    requires { Listing 35 l × (k ≤ 35) × (before.files ≤ 256) }
-{
-    let n = lists::states_at(l, k);
-    let mut t = nothing();
-    let mut state: u8 = 0;
-    while state < n {
-        let same = try_state(
-            g,
-            tags,
-            paths,
-            contents,
-            cut_tags,
-            cut_paths,
-            cut_contents,
-            l,
-            k,
-            state,
-            before,
-            listed,
-            out,
-        );
-        t = count(t, same);
-        state += 1;
+// A step cut short leaves junk in the block under work and its label as it was; an erase may also leave junk and a free label. A label
+// is old or new, which is between steps both times.
+fn try_within(flash: &Flash, done: &[Step], next: Step, before: &Before) -> Tried {
+    let mut t = Tried::none();
+    let block = match next {
+        Step::Erase(b) => b,
+        Step::PageWrite { to, .. } => to,
+        Step::LabelWrite { .. } => return t,
+    };
+    for junk in &[Junk::Zeros, Junk::Blank, Junk::Scattered, Junk::Create] {
+        let mut spare = Spare::after(flash, done);
+        spare.spoil(block, *junk);
+        let spoiled = spare.flash();
+        t = t.and(Tried::one(judge::shows_same(flash, &spoiled, before)));
+        if matches!(next, Step::Erase(_)) {
+            let free = Step::LabelWrite {
+                block,
+                tag: Label::FREE,
+                path: FREE,
+            };
+            let freed = Spare::after(&spoiled, &[free]);
+            t = t.and(Tried::one(judge::shows_same(flash, &freed.flash(), before)));
+        }
     }
     t
 }
 
-pub fn try_list(
-    g: Geometry,
-    tags: &[u8],
-    paths: &[u64],
-    contents: &[u8],
-    cut_tags: &mut [u8],
-    cut_paths: &mut [u64],
-    cut_contents: &mut [u8],
-    l: Steps,
-    before: Before,
-    listed: &[u8],
-    out: &mut [u8],
-) -> Tried
-    requires { Listing 35 l × (before.files ≤ 256) }
+// Every state of a cut after k steps: between two steps, and within the next.
+fn try_cut(flash: &Flash, steps: &[Step], k: usize, before: &Before) -> Tried
+    requires { k ≤ length steps.now }
 {
-    let n = l.count;
-    let mut t = nothing();
-    let mut k: usize = 0;
-    while k <= n {
-        let more = try_step(
-            g,
-            tags,
-            paths,
-            contents,
-            cut_tags,
-            cut_paths,
-            cut_contents,
-            l,
-            k,
-            before,
-            listed,
-            out,
-        );
-        t = sum(t, more);
-        k += 1;
+    let done = &steps[..k];
+    let spare = Spare::after(flash, done);
+    let t = Tried::one(judge::shows_same(flash, &spare.flash(), before));
+    match steps.get(k) {
+        None => t,
+        Some(next) => t.and(try_within(flash, done, *next, before)),
+    }
+}
+
+/// The steps of a list done on the image, cut at every place.
+pub fn try_list(flash: &Flash, steps: &[Step], before: &Before) -> Tried {
+    let mut t = Tried::none();
+    for k in 0..=steps.len() {
+        t = t.and(try_cut(flash, steps, k, before));
     }
     t
 }

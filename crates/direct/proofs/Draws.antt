@@ -41,11 +41,10 @@ module _ (c : List ℕ) (rows : List (List ℕ)) (begins : List ℕ) (k n : ℕ)
       let s : last - j ≡ 0 = omega arith in
       sym (e ∙ ap (λ (m : ℕ). over c rows begins k n j m b) s)
 
-  pub drawn_is : {low last one : ℕ} → low ≡ below rows k → last ≡ below rows (k + n) → one ≡ min low 1 → (b : List ℕ) {b₀ d : List ℕ}
-      → b₀ ≡ replicate n 0 ++ drop n b → d ≡ Up last (low - one) b₀ → d ≡ drawn_from c rows begins k n b
+  pub drawn_is : {first last : ℕ} → first ≡ below rows k - 1 → last ≡ below rows (k + n) → (b : List ℕ) {b₀ d : List ℕ}
+      → b₀ ≡ replicate n 0 ++ drop n b → d ≡ Up last first b₀ → d ≡ drawn_from c rows begins k n b
   unfolding drawn_from
-  drawn_is {low} {last} {one} p q r b {b₀} z e =
-      let s : low - one ≡ below rows k - 1 = omega arith in
+  drawn_is {first} {last} s q b {b₀} z e =
       e ∙ ap (λ (j : ℕ). over c rows begins k n j (last - j) b₀) s ∙ ap (λ (j : ℕ). over c rows begins k n (below rows k - 1) (j - (below rows k - 1)) b₀) q
       ∙ ap (over c rows begins k n (below rows k - 1) (below rows (k + n) - (below rows k - 1))) z
 

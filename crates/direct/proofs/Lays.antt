@@ -1,18 +1,17 @@
 -- A run laid over what the buffer holds, as the code puts it there.
-use Prim.Native.Nat.{ℕ, ◌+◌, ◌-◌, ◌^◌, ◌≤◌, ◌<◌, min}
-use mathlib.Core.Path.{◌≡◌, refl, sym, ap, subst, ◌∙◌}
+use Prim.Native.Nat.{ℕ, ◌+◌, ◌-◌, ◌≤◌, ◌<◌, min, max}
+use mathlib.Core.Path.{◌≡◌, refl, sym, ap, ◌∙◌}
 use mathlib.Core.List.{List, ◌++◌}
 use native.Mathlib.Omega.{arith}
 use borrow.Rule.Slice.PartMut.{put_mid}
 use lib.ListN.{length, take, drop}
 use lib.Seq.{drop-drop}
-use Rattle.base.specs.Choice.{if_less}
 use Rattle.base.proofs.Choices.{less_yes, less_no}
 use Rattle.meaning.specs.declared.Extent.{Extent}
 use Rattle.meaning.specs.Replay.{start, end}
 use Rattle.extent.proofs.Line.{start_end}
 use Rattle.read.specs.Pieces.{larger}
-use Rattle.read.proofs.Draws.{larger_least}
+use Rattle.read.proofs.Draws.{max_larger}
 use Rattle.direct.specs.Direct.{put, laid}
 
 gap : (k s t : ℕ) → k ≤ s → s < t → (t - k - (s - k) ≡ t - s) × (s - k + (t - s) ≡ t - k)
@@ -40,34 +39,16 @@ module _ (c b : List ℕ) (k a begin s t : ℕ) (from-k : k ≤ s) (from-a : a �
 
 -- ---- a run, by its places: s where it starts, from and s + v bound what it has of the n bytes from k on
 
-module _ (k n : ℕ) (e : Extent) {s from : ℕ} (st : s ≡ start e) (fr : from ≡ larger k s) where
-  pub from_least : (k ≤ from) × (s ≤ from)
-  from_least = (omega (arith, (larger_least k s).0), omega (arith, (larger_least k s).1))
+module _ (k n : ℕ) (e : Extent) {s from v : ℕ} (st : s ≡ start e) (fr : from ≡ max k s) (lv : v ≡ min e.count (k + n - s)) where
+  from_is : larger k (start e) ≡ from
+  from_is = sym (max_larger k (start e)) ∙ ap (max k) (sym st) ∙ sym fr
 
-  from_is : from ≡ larger k (start e)
-  from_is = fr ∙ ap (larger k) st
-
-  pub laid_past : (c : List ℕ) (begin : ℕ) (b : List ℕ) → k + n ≤ from → b ≡ laid c k n e begin b
+  pub laid_some : (c : List ℕ) (begin : ℕ) (b : List ℕ) {last : List ℕ} → from < s + v → last ≡ put c k s begin from (s + v) b → last ≡ laid c k n e begin b
   unfolding laid
-  laid_past c begin b h = sym (less_no (larger k (start e)) (min (k + n) (end e)) _ _ (omega (arith, from_is)))
+  laid_some c begin b h p =
+      let to_is : min (k + n) (end e) ≡ s + v = omega (arith, start_end e) in
+      rw (from_is, to_is) (p ∙ ap (λ (a : ℕ). put c k a begin from (s + v) b) st ∙ sym (less_yes from (s + v) _ _ h))
 
-  module _ {w v : ℕ} (top : from < k + n) (cw : w ≡ e.count) (lv : v ≡ min w (k + n - s)) where
-    to_is : s + v ≡ min (k + n) (end e)
-    to_is = omega (arith, start_end e, from_least.1)
-
-    pub lay_asks : (b : List ℕ) → from < s + v → w < 2 ^ 32 → n ≤ length b
-        → (k ≤ from) × (s ≤ from) × (from < s + v) × (s + v - s < 2 ^ 32) × (s + v - k ≤ length b)
-    lay_asks b h l r = (from_least.0, from_least.1, h, omega arith, omega (arith, from_least.1))
-
-    module _ (c : List ℕ) (begin : ℕ) (b : List ℕ) where
-      pub laid_some : {last : List ℕ} → from < s + v → last ≡ put c k s begin from (s + v) b → last ≡ laid c k n e begin b
-      unfolding laid
-      laid_some {last} h p =
-          p ∙ ap (λ (a : ℕ). put c k a begin from (s + v) b) st
-          ∙ sym (subst (λ (j : ℕ). if_less j (min (k + n) (end e)) (put c k (start e) begin j (min (k + n) (end e)) b) b ≡ put c k (start e) begin from (s + v) b)
-          from_is (subst (λ (j : ℕ). if_less from j (put c k (start e) begin from j b) b ≡ put c k (start e) begin from (s + v) b) to_is
-          (less_yes from (s + v) _ _ h)))
-
-      pub laid_none : s + v ≤ from → b ≡ laid c k n e begin b
-      unfolding laid
-      laid_none h = sym (less_no (larger k (start e)) (min (k + n) (end e)) _ _ (omega (arith, from_is, to_is)))
+  pub laid_none : (c : List ℕ) (begin : ℕ) (b : List ℕ) → s + v ≤ from → b ≡ laid c k n e begin b
+  unfolding laid
+  laid_none c begin b h = rw from_is (sym (less_no from (min (k + n) (end e)) _ _ (omega (arith, start_end e))))

@@ -28,7 +28,7 @@ use Rattle.meaning.specs.Services.{buffer_after, read}
 use Rattle.extent.specs.Rows.{extent_of, Four, Lined, Within}
 use Rattle.flash_log.proofs.Sizes.{sizes}
 use Rattle.plan.specs.Select.{chosen, judged, selected}
-use Rattle.plan.specs.declared.Selected.TheVariants.{Planned}
+use Rattle.std.specs.Prelude.{Ok}
 use Rattle.replayed.specs.Shape.{Before, Bounded, Shape, Sorted}
 use Rattle.replayed.proofs.Shape.{replay_shape}
 use Rattle.survival.proofs.Survive.{Accepted, accepted→, passed→}
@@ -129,7 +129,7 @@ module _ (g : Geometry) (l : Lent) (a : Mounted) (mounts : mount_of g l ≡ ok a
   unfolding image_of
   all_stand = is_true _ (rows_stand g m xs held (subst (All (λ (e : Extent). T (lacks g m e) → ⊥)) (sym shown) (lacks_none g m a.tree.extents accepted.there)))
 
-  planned : selected g l ≡ Planned (log_plan (length l.tags) m)
+  planned : selected g l ≡ Ok (log_plan (length l.tags) m)
   unfolding selected judged chosen unless if_true image_of
   planned = rw (fit, ap (λ (n : ℕ). label_refusal n m) (sizes g l fit).tags ∙ accepted.labels)
 

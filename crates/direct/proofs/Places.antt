@@ -1,14 +1,13 @@
 -- The rows one after another, and the answer.
-use Prim.Native.Nat.{ℕ, zero, suc, ◌+◌, ◌-◌, ◌≤◌, ◌<◌}
+use Prim.Native.Nat.{ℕ, suc, ◌+◌, ◌≤◌, ◌<◌}
 use mathlib.Core.Path.{◌≡◌, refl, sym, ap, ◌∙◌}
 use mathlib.Core.Bool.{Bool, true, false, ◌&&◌}
-use mathlib.Core.List.{List, [], ◌∷◌, ◌++◌, map}
+use mathlib.Core.List.{List, [], ◌∷◌, ◌++◌, map, map-append, append_assoc}
 use native.Mathlib.Omega.{arith}
-use native.Mathlib.Nat.{le_of_suc-le-suc, not-suc-le-zero}
+use Rattle.std.proofs.lemmas.List.{get_or-map}
 use native.Mathlib.Numerals.{add-one}
-use borrow.Rule.Slice.PartMut.{put_mid}
-use lib.ListN.{length, get_or, take, drop, length-map, drop_of_length-le}
-use lib.Seq.{drop-cons, length-take-le}
+use lib.ListN.{length, get_or, set, take, drop, length-map}
+use lib.Seq.{drop-cons, length-take-le, set-append_seam, take-suc}
 use Rattle.base.specs.Choice.{if_true}
 use Rattle.base.specs.Scan.{all_of}
 use Rattle.base.proofs.Choices.{less_yes, less_no}
@@ -19,44 +18,56 @@ use Rattle.meaning.specs.declared.Refusal.TheVariants as refused
 use Rattle.meaning.specs.Answer.{Answer, ok, no}
 use Rattle.meaning.specs.Flash.{Labels, Lent, labels_of}
 use Rattle.plan.specs.Select.{selected}
-use Rattle.plan.specs.declared.Selected.{Selected}
-use Rattle.plan.specs.declared.Selected.TheVariants.{Planned, Refused}
+use Rattle.std.specs.Prelude.{Result, Ok, Err}
+use Rattle.std.specs.List.{list_all}
+use Rattle.direct.proofs.Begun.{place_is}
 use Rattle.direct.specs.Begins.{stands, place_of, begins_of, begun, places_after}
 
--- ---- a test of each element
-
-module _ {A : Type 0} (p : A → Bool) (xs : List A) (k : ℕ) (d : A) (e : all_of p xs ≡ all_of p (drop k xs)) where
-  next : k < length xs → all_of p xs ≡ (p (get_or xs k d) && all_of p (drop (suc k) xs))
-  unfolding all_of
-  next h = e ∙ ap (all_of p) (drop-cons xs k d h)
-
-  pub all_on : {u : Bool} → k < length xs → u ≡ p (get_or xs k d) → u ≡ true → all_of p xs ≡ all_of p (drop (k + 1) xs)
-  all_on h a b = next h ∙ ap (λ (v : Bool). v && all_of p (drop (suc k) xs)) (sym a ∙ b) ∙ ap (λ (j : ℕ). all_of p (drop j xs)) (sym (add-one k))
-
-  pub all_stop : {u : Bool} → k < length xs → u ≡ p (get_or xs k d) → u ≡ false → false ≡ all_of p xs
-  all_stop h a b = sym (next h ∙ ap (λ (v : Bool). v && all_of p (drop (suc k) xs)) (sym a ∙ b))
-
-pub all_end : {A : Type 0} (p : A → Bool) (xs : List A) (k : ℕ) → all_of p xs ≡ all_of p (drop k xs) → length xs ≤ k → true ≡ all_of p xs
+pub all_same : {A : Type 0} (p : A → Bool) (xs : List A) → list_all p xs ≡ all_of p xs
 unfolding all_of
-all_end p xs k e h = sym (e ∙ ap (all_of p) (drop_of_length-le xs {i = k} h))
+all_same p [] = refl
+all_same p (x ∷ xs) = ap (λ b. p x && b) (all_same p xs)
 
 -- ---- the places
 
-map_at : {A : Type 0} (f : A → ℕ) (xs : List A) (i : ℕ) (d : A) → i < length xs → f (get_or xs i d) ≡ get_or (map f xs) i 0
-map_at f [] i d h = absurd (not-suc-le-zero h)
-map_at f (x ∷ xs) zero d h = refl
-map_at f (x ∷ xs) (suc i) d h = map_at f xs i d (le_of_suc-le-suc h)
-
 pub begins_at : (g : Geometry) (m : Labels) (rows : List (List ℕ)) (i : ℕ) {v : ℕ} → i < length rows → v ≡ place_of g m (get_or rows i []) → v ≡ get_or (begins_of g m rows) i 0
 unfolding begins_of
-begins_at g m rows i h e = e ∙ map_at (place_of g m) rows i [] h
+begins_at g m rows i h e = e ∙ sym (get_or-map (place_of g m) rows i [] 0 h)
 
 pub begins_long : (g : Geometry) (m : Labels) (rows : List (List ℕ)) → length (begins_of g m rows) ≡ length rows
 unfolding begins_of
 begins_long g m rows = length-map rows (place_of g m)
 
-pub part_long : (n : ℕ) (places : List ℕ) → n ≤ length places → length (take (n - 0) places) ≡ n
-part_long n places h = let e : n - 0 ≡ n = omega arith in ap (λ (k : ℕ). length (take k places)) e ∙ length-take-le n places h
+-- the first k places are those of the first k rows, the others are as they were
+abbrev pub Stored : Geometry → Labels → List (List ℕ) → List ℕ → List ℕ → ℕ → Type 0
+Stored g m rows old now k = now ≡ begins_of g m (take k rows) ++ drop k old
+
+pub stored_none : (g : Geometry) (m : Labels) (old : List ℕ) → begins_of g m [] ++ old ≡ old
+unfolding begins_of
+stored_none g m old = refl
+
+module _ (g : Geometry) (m : Labels) (rows : List (List ℕ)) (old : List ℕ) where
+  module _ (k : ℕ) (h : k < length rows) (room : length rows ≤ length old) where
+    abbrev A : List ℕ
+    A = begins_of g m (take k rows)
+
+    long : length A ≡ k
+    long = begins_long g m (take k rows) ∙ length-take-le k rows (omega arith)
+
+    pub stored_more : {now : List ℕ} {v : ℕ} → v ≡ place_of g m (get_or rows k []) → Stored g m rows old now k → Stored g m rows old (set now k v) (k + 1)
+    unfolding begins_of
+    stored_more {now} {v} f e =
+        let some : k < length old = omega arith in
+        let s : set (A ++ drop k old) k v ≡ A ++ (v ∷ drop (suc k) old) =
+        ap (λ (ys : List ℕ). set (A ++ ys) k v) (drop-cons old k 0 some) ∙ ap (λ (j : ℕ). set (A ++ (get_or old k 0 ∷ drop (suc k) old)) j v) (sym long)
+        ∙ set-append_seam A (get_or old k 0) (drop (suc k) old) v in
+        let y : begins_of g m (take (k + 1) rows) ≡ A ++ (v ∷ []) =
+        ap (λ (j : ℕ). map (place_of g m) (take j rows)) (add-one k) ∙ ap (map (place_of g m)) (take-suc rows k [] h)
+        ∙ map-append (place_of g m) (take k rows) (get_or rows k [] ∷ []) ∙ ap (λ (w : ℕ). A ++ (w ∷ [])) (sym f) in
+        ap (λ (ys : List ℕ). set ys k v) e ∙ s ∙ sym (append_assoc A (v ∷ []) (drop (suc k) old))
+        ∙ ap (λ (ys : List ℕ). ys ++ drop (suc k) old) (sym y) ∙ ap (λ (j : ℕ). begins_of g m (take (k + 1) rows) ++ drop j old) (sym (add-one k))
+
+pub ruleset stores = (stored_none, stored_more, place_is)
 
 -- ---- the answer
 
@@ -81,21 +92,24 @@ module _ (g : Geometry) (l : Lent) (rows : List (List ℕ)) (places : List ℕ) 
   unfolding begun
   few_places h = says_no (sym (less_yes (length places) (length rows) _ _ h))
 
-  module _ (enough : length rows ≤ length places) {s : Selected} (e : s ≡ selected g l) where
-    abbrev by : Selected → Answer (List ℕ)
+  module _ (enough : length rows ≤ length places) {s : Result Plan Refusal} (e : s ≡ selected g l) where
+    abbrev by : Result Plan Refusal → Answer (List ℕ)
     by o = elim o [
-      | Refused r ↦ no r
-      | Planned p ↦ if_true (all_of (stands g m) rows) (ok (begins_of g m rows)) (no refused.Geometry)
+      | Err r ↦ no r
+      | Ok p ↦ if_true (all_of (stands g m) rows) (ok (begins_of g m rows)) (no refused.Geometry)
     ]
 
     chosen : by s ≡ a
     unfolding begun
     chosen = sym (less_no (length places) (length rows) _ _ enough ∙ ap by (sym e))
 
-    pub by_labels : {r : Refusal} → s ≡ Refused r → Says (no r) places
+    pub by_labels : {r : Refusal} → s ≡ Err r → Says (no r) places
     by_labels h = says_no (sym (ap by h) ∙ chosen)
 
-    module _ {p : Plan} (h : s ≡ Planned p) {u : Bool} (w : u ≡ all_of (stands g m) rows) where
+    module _ {p : Plan} (h : s ≡ Ok p) {u : Bool} (every : u ≡ list_all (stands g m) rows) where
+      w : u ≡ all_of (stands g m) rows
+      w = every ∙ all_same (stands g m) rows
+
       told : if_true u (ok (begins_of g m rows)) (no refused.Geometry) ≡ a
       told = ap (λ (v : Bool). if_true v (ok (begins_of g m rows)) (no refused.Geometry)) w ∙ sym (ap by h) ∙ chosen
 
@@ -103,9 +117,8 @@ module _ (g : Geometry) (l : Lent) (rows : List (List ℕ)) (places : List ℕ) 
       unfolding if_true
       some_torn z = says_no (sym (ap (λ (v : Bool). if_true v (ok (begins_of g m rows)) (no refused.Geometry)) z) ∙ told)
 
-      pub all_begun : u ≡ true → {ys : List ℕ} → ys ≡ begins_of g m rows → Says (ok (begins_of g m rows)) (put_mid 0 (length rows - 0) places ys)
+      pub all_begun : u ≡ true → {last : List ℕ} → last ≡ begins_of g m rows ++ drop (length rows) places → Says (ok (begins_of g m rows)) last
       unfolding if_true
-      all_begun z {ys} y =
+      all_begun z y =
           let t : ok (begins_of g m rows) ≡ a = sym (ap (λ (v : Bool). if_true v (ok (begins_of g m rows)) (no refused.Geometry)) z) ∙ told in
-          let c : length rows - 0 ≡ length rows = omega arith in
-          (t, rw (c, y) refl ∙ after t)
+          (t, y ∙ after t)

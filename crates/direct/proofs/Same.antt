@@ -30,8 +30,9 @@ use Rattle.extent.specs.Rows.{extent_of, runs, Within, Split}
 use Rattle.extent.proofs.Line.{start_end}
 use Rattle.flash_log.proofs.Sizes.{Sizes, sizes, block_in}
 use Rattle.plan.specs.Select.{selected}
-use Rattle.plan.specs.declared.Selected.{Selected}
-use Rattle.plan.specs.declared.Selected.TheVariants.{Planned, Refused}
+use Rattle.std.specs.Prelude.{Result, Ok, Err}
+use Rattle.meaning.specs.declared.Plan.{Plan}
+use Rattle.meaning.specs.declared.Refusal.{Refusal}
 use Rattle.replayed.specs.Shape.{Ascending}
 use Rattle.replayed.proofs.Records.{look_here, look_there}
 use Rattle.replayed.proofs.Shape.{replay_shape}
@@ -40,7 +41,7 @@ use Rattle.survival.proofs.Survive.{accepted→}
 use Rattle.read.specs.Pieces as pieces
 use Rattle.read.specs.Pieces.{bare, drawn, larger, place_at, stretch}
 use Rattle.read.proofs.Address.{piece_part, place_below}
-use Rattle.read.proofs.Copies.{Bytes, copy_on, copy_begin, copy_end, few_rows}
+use Rattle.read.proofs.Copies.{Bytes, copy_on, copy_first, copy_end, few_rows}
 use Rattle.read.proofs.Draws.{larger_least}
 use Rattle.read.proofs.Stretch.{stretch_take, stretch_drop}
 use Rattle.direct.specs.Begins.{begin_of, begins_of, begun, place_of, places_after, stands}
@@ -136,9 +137,7 @@ module _ (g : Geometry) (l : Lent) (fit : fits g l ≡ true) (xs : List (List �
       let j : ℕ = below xs key - 1 in
       let k : ℕ = below xs (key + n) - j in
       let z : List ℕ = replicate n 0 ++ drop n b in
-      let one : below xs key - min (below xs key) 1 ≡ j = omega arith in
-      let first : z ≡ Bytes xs w g m p x n j ++ drop n z =
-      copy_begin xs w g m p x n (below xs key) refl low refl b {l = z} refl ∙ ap (λ (i : ℕ). Bytes xs w g m p x n i ++ drop n z) one in
+      let first : z ≡ Bytes xs w g m p x n j ++ drop n z = copy_first xs w g m p x n (below xs key) refl low refl b {l = z} refl in
       copy_end xs w g m p x n (below xs (key + n)) (j + k) refl refl last (omega arith) b z refl
       (over_is p x n j k (omega (arith, few_rows xs key (below xs key) low, few_rows xs (key + n) (below xs (key + n)) last)) (drop n z) z first)
 
@@ -167,12 +166,12 @@ module _ (g : Geometry) (l : Lent) (xs : List (List ℕ)) (before : List ℕ) (b
   begun→ = all_less (λ (o : Answer (List ℕ)). o ≡ ok bs → Whole) _ _ _ _ (λ h q. absurd (zero_one (cc)))
       (λ h q. by (selected g l) h q) e
     where
-      by : (s : Selected) → length xs ≤ length before → ◌≡◌ {A = Answer (List ℕ)} (elim s [
-        | Refused r ↦ no r
-        | Planned p ↦ if_true (all_of (stands g labels) xs) (ok (begins_of g labels xs)) (no refused.Geometry)
+      by : (s : Result Plan Refusal) → length xs ≤ length before → ◌≡◌ {A = Answer (List ℕ)} (elim s [
+        | Err r ↦ no r
+        | Ok p ↦ if_true (all_of (stands g labels) xs) (ok (begins_of g labels xs)) (no refused.Geometry)
       ]) (ok bs) → Whole
-      by (Refused r) h q = absurd (zero_one (cc))
-      by (Planned p) h q = all_true (λ (o : Answer (List ℕ)). o ≡ ok bs → Whole) _ _ _ (λ t z. (h, T-yes _ t, (cc))) (λ t z. absurd (zero_one (cc))) q
+      by (Err r) h q = absurd (zero_one (cc))
+      by (Ok p) h q = all_true (λ (o : Answer (List ℕ)). o ≡ ok bs → Whole) _ _ _ (λ t z. (h, T-yes _ t, (cc))) (λ t z. absurd (zero_one (cc))) q
 
   after_is : places_after g l xs before ≡ begins_of g labels xs ++ drop (length xs) before
   unfolding places_after

@@ -1,5 +1,5 @@
 -- Where the runs of extents begin in the contents.
-use Rattle.std.specs.Prelude.{ℕ, ◌+◌, ◌%◌, Bool, List, ◌++◌, map, length, drop}
+use Rattle.std.specs.Prelude.{ℕ, ◌+◌, ◌%◌, Bool, List, ◌++◌, map, length, drop, Option as std_Option, Some, None, Ok, Err}
 use Rattle.std.proofs.Math.Option.{Option, none, some}
 use Rattle.base.specs.Choice.{if_true, if_less, is_some, on_some, or_zero}
 use Rattle.base.specs.Scan.{all_of}
@@ -9,11 +9,8 @@ use Rattle.meaning.specs.declared.Refusal.TheVariants as refused
 use Rattle.meaning.specs.Answer.{Answer, ok, no}
 use Rattle.meaning.specs.Flash.{Labels, Lent, begins, block_size, labels_of}
 use Rattle.plan.specs.Select.{selected}
-use Rattle.plan.specs.declared.Selected.TheVariants.{Planned, Refused}
 use Rattle.extent.specs.Rows.{extent_of}
 use Rattle.read.specs.Pieces.{bare, place_at}
-use Rattle.direct.specs.declared.Begin.{Begin}
-use Rattle.direct.specs.declared.Begin.TheVariants.{At, Nowhere}
 
 -- the place of an extent's first byte, where its block is there; none for "a run that leaves its block"
 unfoldable pub begin_of : Geometry → Labels → Extent → Option ℕ
@@ -22,9 +19,10 @@ begin_of g m e =
     if_less (block_size g) (bare e.address % block_size g + e.count) none
     (some (begins g b + bare e.address % block_size g)))
 
-unfoldable pub begin : Option ℕ → Begin
-begin none = Nowhere
-begin (some i) = At i
+-- as the code answers it
+unfoldable pub begin : Option ℕ → std_Option ℕ
+begin none = None
+begin (some i) = Some i
 
 -- a row's run stands whole in a block that is there
 unfoldable pub stands : Geometry → Labels → List ℕ → Bool
@@ -41,8 +39,8 @@ unfoldable pub begun : Geometry → Lent → List (List ℕ) → ℕ → Answer 
 begun g l rows room =
     if_less room (length rows) (no refused.Geometry)
     (elim (selected g l) [
-      | Refused r ↦ no r
-      | Planned p ↦ if_true (all_of (stands g (labels_of l.tags l.paths)) rows) (ok (begins_of g (labels_of l.tags l.paths) rows)) (no refused.Geometry)
+      | Err r ↦ no r
+      | Ok p ↦ if_true (all_of (stands g (labels_of l.tags l.paths)) rows) (ok (begins_of g (labels_of l.tags l.paths) rows)) (no refused.Geometry)
     ])
 
 -- what the places hold then: past the last row as they were

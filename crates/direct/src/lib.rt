@@ -2,163 +2,79 @@
 // once where each run begins in the contents, and reads from there, with no label search.
 #![tactic(auto)]
 
-ghost use Rattle.std.specs.Prelude.{◌≡◌, ◌+◌, ◌-◌, ◌^◌, ◌≤◌, ◌<◌, length, get_or};
-ghost use Rattle.base.specs.Choice.{or_zero};
-ghost use Rattle.base.specs.Scan.{all_of};
-ghost use Rattle.meaning.specs.Flash.{labels_of};
+ghost use Rattle.std.specs.List.{list_all};
+ghost use Rattle.std.specs.Prelude.{◌≡◌, ◌+◌, ◌-◌, ◌^◌, ◌≤◌, ◌<◌, ◌++◌, length, drop};
+ghost use Rattle.label.specs.Lent.{labels, lent_of};
+ghost use Rattle.meaning.specs.Answer.{answer_by};
 ghost use Rattle.meaning.specs.Replay.{spot as the_spot};
-ghost use Rattle.plan.specs.Select.{lent};
 ghost use Rattle.extent.specs.Rows.{extent_of};
-ghost use Rattle.flash_log.specs.Cursor.{Ready};
-ghost use Rattle.replay.specs.Replay.{answer_by};
+ghost use Rattle.flash_log.specs.Cursor.{Planned};
 ghost use Rattle.file.specs.File.{answer};
-ghost use Rattle.direct.specs.Begins.{begin as the_begin, begin_of, begins_of, begun, place_of, places_after, stands};
+ghost use Rattle.direct.specs.Begins.{begin as the_begin, begin_of, begins_of, begun, places_after, stands};
 ghost use Rattle.direct.specs.Direct.{answered, buffer_with, drawn_from, laid, put as the_put};
 
-use file::Outcome;
-use label::Found;
-use meaning::{Geometry, Plan, Record, Refusal};
-use plan::Selected;
-use replay::Said;
-
-// Where a run begins in the contents, or that no block has the whole of it.
-#[derive(Clone, Copy)]
-enum Begin {
-    At(u32),
-    Nowhere,
-}
-
-fn wide(x: u32) -> u64
-    ensures { (result ≡ x) × (x < 2 ^ 32) }
-{
-    x as u64
-}
+use label::Flash;
+use meaning::{Plan, Record, Refusal};
 
 // ---- where the runs begin
 
-// A run never leaves its block, so one place a run is enough.
-fn begin_of(
-    g: Geometry,
-    tags: &[u8],
-    paths: &[u64],
-    contents: &[u8],
-    p: Plan,
-    row: [u32; 4],
-) -> Begin
-    requires { Ready g (lent tags.now paths.now contents.now) p }
-    ensures { result ≡ the_begin (begin_of g (labels_of tags.now paths.now) (extent_of row)) }
+// Where a run begins in the contents; none where no block has the whole of it. A run never leaves its block, so one place a run is
+// enough.
+fn begin_of(flash: &Flash, p: Plan, row: [u32; 4]) -> Option<u32>
+    requires { Planned flash.now p }
+    ensures { result ≡ the_begin (begin_of flash.now.geometry (labels flash.now) (extent_of row)) }
 {
-    let a = row[3];
-    let Found::At(b) = read::place_at(g, tags, paths, contents, p, a) else {
-        return Begin::Nowhere;
-    };
-    let at = read::bare(a);
-    let offset = label::offset_at(g, at);
-    let size = label::block_size(g);
-    if size < offset + wide(row[2]) {
-        return Begin::Nowhere;
+    let [_, _, count, address] = row;
+    let b = read::place_at(flash, p, address)?;
+    let offset = label::offset_at(flash.geometry, read::bare(address));
+    let size = label::block_size(flash.geometry);
+    if size < offset + u64::from(count) {
+        return None;
     }
-    Begin::At((b.0 as u64 * size + offset) as u32)
+    Some((b.0 as u64 * size + offset) as u32)
 }
 
-// 0 where there is none.
-fn place_of(g: Geometry, tags: &[u8], paths: &[u64], contents: &[u8], p: Plan, row: [u32; 4]) -> u32
-    requires { Ready g (lent tags.now paths.now contents.now) p }
-    ensures { result ≡ place_of g (labels_of tags.now paths.now) row }
+#[tactic(auto, using(crate::proofs::Begun::is_whole))]
+fn is_whole(flash: &Flash, p: Plan, row: [u32; 4]) -> bool
+    requires { Planned flash.now p }
+    ensures { result ≡ stands flash.now.geometry (labels flash.now) row }
 {
-    let Begin::At(i) = begin_of(g, tags, paths, contents, p, row) else {
-        return 0;
-    };
-    i
-}
-
-fn is_whole(
-    g: Geometry,
-    tags: &[u8],
-    paths: &[u64],
-    contents: &[u8],
-    p: Plan,
-    row: [u32; 4],
-) -> bool
-    requires { Ready g (lent tags.now paths.now contents.now) p }
-    ensures { result ≡ stands g (labels_of tags.now paths.now) row }
-{
-    match begin_of(g, tags, paths, contents, p, row) {
-        Begin::At(_) => true,
-        Begin::Nowhere => false,
-    }
+    begin_of(flash, p, row).is_some()
 }
 
 // Before the first place is stored: a refusal changes nothing.
-fn are_whole(
-    g: Geometry,
-    tags: &[u8],
-    paths: &[u64],
-    contents: &[u8],
-    p: Plan,
-    xs: &[[u32; 4]],
-) -> bool
-    requires { Ready g (lent tags.now paths.now contents.now) p }
-    ensures { result ≡ all_of (stands g (labels_of tags.now paths.now)) xs.now }
+fn are_whole(flash: &Flash, p: Plan, xs: &[[u32; 4]]) -> bool
+    requires { Planned flash.now p }
+    ensures { result ≡ list_all (stands flash.now.geometry (labels flash.now)) xs.now }
 {
-    let mut k = 0;
-    while k < xs.len() {
-        let row = xs[k];
-        if !is_whole(g, tags, paths, contents, p, row) {
-            return false;
-        }
-        k += 1;
-    }
-    true
+    xs.iter().all(|row| is_whole(flash, p, *row))
 }
 
-fn put_places(
-    g: Geometry,
-    tags: &[u8],
-    paths: &[u64],
-    contents: &[u8],
-    p: Plan,
-    xs: &[[u32; 4]],
-    part: &mut [u32],
-)
-    requires { Ready g (lent tags.now paths.now contents.now) p × (length part.old ≡ length xs.now) }
-    ensures { part.new ≡ begins_of g (labels_of tags.now paths.now) xs.now }
+#[tactic(auto, using(crate::proofs::Places::stores))]
+fn put_places(flash: &Flash, p: Plan, xs: &[[u32; 4]], places: &mut [u32])
+    requires { Planned flash.now p × (length xs.now ≤ length places.old) }
+    ensures { places.new ≡ begins_of flash.now.geometry (labels flash.now) xs.now ++ drop (length xs.now) places.old }
 {
-    let mut k = 0;
-    while k < part.len() {
-        let row = xs[k];
-        part[k] = place_of(g, tags, paths, contents, p, row);
-        k += 1;
+    for (k, row) in xs.iter().enumerate() {
+        places[k] = begin_of(flash, p, *row).unwrap_or(0);
     }
 }
 
 /// Where the bytes of each extent begin in the contents. Refusals 1 to 6 as the mount gives them; GEOMETRY too where there are fewer
 /// places than rows, or a row is not of an extent whose whole run stands in one block that is there.
-pub fn begins(
-    g: Geometry,
-    tags: &[u8],
-    paths: &[u64],
-    contents: &[u8],
-    xs: &[[u32; 4]],
-    places: &mut [u32],
-) -> Said
-    ensures xs_value { answer_by result (begins_of g (labels_of tags.now paths.now) xs.now) ≡ begun g (lent tags.now paths.now contents.now) xs.now (length places.old) }
-    ensures places_after { places.new ≡ places_after g (lent tags.now paths.now contents.now) xs.now places.old }
+pub fn begins(flash: &Flash, xs: &[[u32; 4]], places: &mut [u32]) -> Result<(), Refusal>
+    ensures xs_value { answer_by (λ done. begins_of flash.now.geometry (labels flash.now) xs.now) result ≡ begun flash.now.geometry (lent_of flash.now) xs.now (length places.old) }
+    ensures places_after { places.new ≡ places_after flash.now.geometry (lent_of flash.now) xs.now places.old }
 {
-    let n = xs.len();
-    if places.len() < n {
-        return Said::Refused(Refusal::Geometry);
+    if places.len() < xs.len() {
+        return Err(Refusal::Geometry);
     }
-    match plan::select(g, tags, paths, contents) {
-        Selected::Refused(r) => Said::Refused(r),
-        Selected::Planned(p) => {
-            if !are_whole(g, tags, paths, contents, p, xs) {
-                return Said::Refused(Refusal::Geometry);
-            }
-            put_places(g, tags, paths, contents, p, xs, &mut places[0..n]);
-            return Said::Whole;
-        }
+    let p = plan::select(flash)?;
+    if !are_whole(flash, p, xs) {
+        return Err(Refusal::Geometry);
     }
+    put_places(flash, p, xs, places);
+    Ok(())
 }
 
 // ---- a read from there
@@ -169,13 +85,13 @@ fn put(contents: &[u8], key: u64, s: u64, begin: u32, from: u64, to: u64, buffer
     requires { (key ≤ from) × (s ≤ from) × (from < to) × (to - s < 2 ^ 32) × (to - key ≤ length buffer.old) }
     ensures { buffer.new ≡ the_put contents.now key s begin from to buffer.old }
 {
-    let past = wide(begin) + (to - s);
+    let past = u64::from(begin) + (to - s);
     if past <= contents.len() as u64 {
         let low = (from - key) as usize;
         let high = (to - key) as usize;
         let end = past as usize;
         let at = end - (high - low);
-        read::copy_bytes(&mut buffer[low..high], &contents[at..end]);
+        buffer[low..high].copy_from_slice(&contents[at..end]);
     }
 }
 
@@ -186,12 +102,10 @@ fn lay(contents: &[u8], row: [u32; 4], begin: u32, key: u64, n: usize, buffer: &
 {
     let s = extent::start_of(row);
     let top = key + n as u64;
-    let from = read::larger(key, s);
-    if from < top {
-        let to = s + read::lesser(wide(row[2]), top - s);
-        if from < to {
-            put(contents, key, s, begin, from, to, buffer);
-        }
+    let from = key.max(s);
+    let to = s + u64::from(row[2]).min(top.saturating_sub(s));
+    if from < to {
+        put(contents, key, s, begin, from, to, buffer);
     }
 }
 
@@ -209,16 +123,12 @@ fn draw(
     requires { (length xs.now ≤ length begins.now) × (n ≤ length buffer.old) × (x + n < 2 ^ 32) }
     ensures { buffer.new ≡ drawn_from contents.now xs.now begins.now (the_spot path x) n buffer.old }
 {
-    read::clear(&mut buffer[0..n]);
+    buffer[0..n].fill(0);
     let key = read::spot(path, x);
     let low = extent::by_halves(xs, xs.len(), key);
     let last = extent::by_halves(xs, xs.len(), key + n as u64);
-    let mut j = low - read::lesser(low as u64, 1) as usize;
-    while j < last {
-        let row = xs[j];
-        let begin = begins[j];
-        lay(contents, row, begin, key, n, buffer);
-        j += 1;
+    for j in low.saturating_sub(1)..last {
+        lay(contents, xs[j], begins[j], key, n, buffer);
     }
 }
 
@@ -231,19 +141,19 @@ pub fn read(
     begins: &[u32],
     x: u64,
     buffer: &mut [u8],
-) -> Outcome
+) -> Result<usize, Refusal>
     ensures result_value { answer result ≡ answered f (length xs.now) (length begins.now) x (length buffer.old) }
     ensures buffer_after { buffer.new ≡ buffer_with contents.now f xs.now begins.now x buffer.old }
 {
     if begins.len() < xs.len() {
-        return Outcome::Refused(Refusal::Geometry);
+        return Err(Refusal::Geometry);
     }
     if tree::is_dir(f.perm) {
-        return Outcome::Refused(Refusal::NoFile(f.path as u64));
+        return Err(Refusal::NoFile(u64::from(f.path)));
     }
     let n = file::count(buffer.len(), f.length, x);
     if 0 < n {
         draw(contents, f.path, xs, begins, x as u32, n, buffer);
     }
-    Outcome::Read(n)
+    Ok(n)
 }

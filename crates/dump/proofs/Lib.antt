@@ -1,5 +1,4 @@
 -- Laws that the proofs of the functions share.
-pub mod Ways
 pub mod Loops
 pub mod Sizes
 pub mod Lent

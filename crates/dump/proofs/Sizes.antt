@@ -1,12 +1,12 @@
 -- Right sizes are small, and so are the products of sizes.
-use Prim.Native.Nat.{ℕ, ◌*◌, ◌≤◌}
+use Prim.Native.Nat.{ℕ, ◌*◌, ◌≤◌, ◌<◌}
 use native.Mathlib.Nat.{mul-le-mul}
 use native.Mathlib.Omega.{arith}
 use mathlib.Core.Logic.{⊎_elim}
-use mathlib.Core.Bool.{Bool, true, ◌||◌}
-use mathlib.Core.Path.{◌≡◌, sym, ◌∙◌}
+use mathlib.Core.Bool.{Bool, true, false, ◌||◌}
+use mathlib.Core.Path.{◌≡◌, refl, sym, ◌∙◌}
 use lib.Dec.{T, eqb, eqb→eq}
-use Rattle.base.proofs.Tests.{T-yes, or_cases, tests}
+use Rattle.base.proofs.Tests.{T-yes, is_true, is_false, or_cases, tests}
 use Rattle.meaning.specs.declared.Geometry.{Geometry}
 use Rattle.meaning.specs.Flash.{good_size, good_pages, good_geometry, block_size}
 
@@ -36,29 +36,28 @@ right g e f =
     let p = within g.pages 4 8 16 32 4 32 (search tests) (omega arith) (omega arith) (omega arith) (omega arith) (omega arith) in
     record { byte = s.0; size = s.1; page = p.0; pages = p.1; block = search tests; blocks = search tests }
 
+-- a number past 16 bits is no size
+module _ (g : Geometry) where
+  pub wide_size : 65535 < g.size → good_geometry g ≡ false
+  wide_size h = is_false _ (λ (t : T (good_geometry g)). let w = right g refl (is_true _ t) in omega arith)
+
+  pub wide_pages : 65535 < g.pages → good_geometry g ≡ false
+  wide_pages h = is_false _ (λ (t : T (good_geometry g)). let w = right g refl (is_true _ t) in omega arith)
+
+  pub wide_blocks : 65535 < g.blocks → good_geometry g ≡ false
+  wide_blocks h = is_false _ (λ (t : T (good_geometry g)). let w = right g refl (is_true _ t) in omega arith)
+
 -- b is the code's block size
-module _ (g : Geometry) {b : ℕ} (w : Right g) (e : b ≡ block_size g) where
-  pub block_least : 1024 ≤ b
+module _ (g : Geometry) {b : ℕ} (e : b ≡ block_size g) where
+  pub block_least : Right g → 1024 ≤ b
   unfolding block_size
-  block_least = let q : 256 * 4 ≤ g.size * g.pages = mul-le-mul w.byte w.page in omega arith
+  block_least w = let q : 256 * 4 ≤ g.size * g.pages = mul-le-mul w.byte w.page in omega arith
 
-  pub block_most : b ≤ 65536
+  -- sizes of 16 bits, right or not
+  pub contents_below : g.blocks ≤ 65535 → g.size ≤ 65535 → g.pages ≤ 65535 → g.blocks * b ≤ 281462092005375
   unfolding block_size
-  block_most = let q : g.size * g.pages ≤ 2048 * 32 = mul-le-mul w.size w.pages in omega arith
-
-  pub contents_most : g.blocks * b ≤ 67108864
-  contents_most = let q : g.blocks * b ≤ 1024 * 65536 = mul-le-mul w.blocks block_most in omega arith
-
--- sizes of 16 bits, right or not
-pub product : (a b : ℕ) → a ≤ 65535 → b ≤ 65535 → a * b ≤ 4294836225
-product a b h k = let q : a * b ≤ 65535 * 65535 = mul-le-mul h k in omega arith
-
-pub starts_below : (place size : ℕ) → place ≤ 4294967295 → size ≤ 65535 → place * size ≤ 281470681677825
-starts_below a b h k = let q : a * b ≤ 4294967295 * 65535 = mul-le-mul h k in omega arith
-
-pub contents_below : (g : Geometry) {b : ℕ} → b ≡ block_size g → g.blocks ≤ 65535 → g.size ≤ 65535 → g.pages ≤ 65535 → g.blocks * b ≤ 281462092005375
-unfolding block_size
-contents_below g {b} e h s p =
-    let k : b ≤ 4294836225 = omega (arith, product g.size g.pages s p) in
-    let q : g.blocks * b ≤ 65535 * 4294836225 = mul-le-mul h k in
-    omega arith
+  contents_below h s p =
+      let q : g.size * g.pages ≤ 65535 * 65535 = mul-le-mul s p in
+      let k : b ≤ 65535 * 65535 = omega arith in
+      let r : g.blocks * b ≤ 65535 * (65535 * 65535) = mul-le-mul h k in
+      omega arith

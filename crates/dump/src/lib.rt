@@ -1,308 +1,178 @@
 // A dump, as the listing program reads it. The whole text is looked at first, and the lent slices are filled after, so a refusal leaves
-// them as they were. The text is one dump; the number of its first line is told, so a dump may be part of a longer input.
-#![tactic(auto)]
+// them as they were. The text is one dump; the number of its first line is told, so a dump may be part of a longer input. The slices that
+// it fills stay apart: of what a struct of `&mut` slices leaves, nothing is tied to the slices lent (tried in step).
+#![tactic(auto, unfolding(base::specs::Choice::if_less, base::specs::Choice::if_true, base::specs::Choice::bind, text::specs::Piece::on_read, crate::specs::Dump::on_ok, crate::specs::Lines::right_sizes, crate::specs::Lines::small, crate::specs::Lines::first_at, crate::specs::Lines::label_at, crate::specs::Lines::page_at, crate::specs::Lines::places, crate::specs::Dump::dump_of, crate::specs::Given::answer, crate::specs::Given::tags_after, crate::specs::Given::paths_after, crate::specs::Given::contents_after))]
 
-ghost use Rattle.std.specs.Prelude.{◌≡◌, ◌+◌, ◌*◌, ◌≤◌, length, replicate};
-ghost use Rattle.meaning.specs.Flash.{good_geometry, good_pages, good_size};
+ghost use Rattle.std.specs.Prelude.{◌≡◌, ◌+◌, ◌*◌, ◌≤◌, length};
 ghost use Rattle.text.specs.Put.{put};
-ghost use Rattle.dump.specs.Lines.{first_at, label_at, page_at, places as the_places, sized, sizes};
+ghost use Rattle.dump.specs.Lines.{first_at, label_at, page_at, places as the_places, right_sizes, sizes};
 ghost use Rattle.dump.specs.Dump.{dump_of, label_lines, page_lines};
 ghost use Rattle.dump.specs.Given.{answer, bytes_from, contents_after, labels_from, pages_from, paths_after, tags_after, the_path, the_tag};
 
 use meaning::{Geometry, Refusal};
-use text::{Byte, Field};
-
-/// What the first line says: sizes and the place past it; sizes that are wrong; or no G line.
-#[derive(Clone, Copy)]
-pub enum First {
-    Sized(Geometry, usize),
-    WrongSizes,
-    BadG,
-}
+use text::Field;
 
 /// What a B line says, and the place past it.
 #[derive(Clone, Copy)]
-pub enum Label {
-    Tagged { tag: u8, path: u64, next: usize },
-    BadB,
+struct Label {
+    tag: u8,
+    path: u64,
+    next: usize,
 }
 
 /// What a P line says: the page's place, counted over all blocks, where its bytes stand, how many, and the place past the line.
 #[derive(Clone, Copy)]
-pub enum Page {
-    Bytes {
-        place: u32,
-        from: usize,
-        count: u64,
-        next: usize,
-    },
-    BadP,
+struct Page {
+    place: u32,
+    from: usize,
+    count: u64,
+    next: usize,
 }
 
-/// The place past lines that are good, or the number of the first bad one.
+/// What a dump says: its sizes, and where its B lines and its P lines begin.
 #[derive(Clone, Copy)]
-pub enum Lines {
-    Past(usize),
-    BadLine(u64),
-}
-
-/// What a dump says: its sizes, and where its B lines and its P lines begin; or its refusal, GEOMETRY or DUMP.
-#[derive(Clone, Copy)]
-pub enum Dump {
-    Fine(Geometry, usize, usize),
-    Refused(Refusal),
+pub struct Dump {
+    pub geometry: Geometry,
+    pub labels: usize,
+    pub pages: usize,
 }
 
 // ---- the G line
 
-fn good_size(size: u64) -> bool
-    ensures { result ≡ good_size size }
+/// Right sizes have at most 16 bits.
+#[tactic(auto, unfolding(base::specs::Choice::if_true, crate::specs::Lines::right_sizes), using(crate::proofs::Sizes::wide_size, crate::proofs::Sizes::wide_pages, crate::proofs::Sizes::wide_blocks))]
+fn right_sizes(size: u64, pages: u64, blocks: u64) -> Option<Geometry>
+    ensures { result ≡ right_sizes (sizes size pages blocks) }
 {
-    if size == 256 {
-        return true;
-    }
-    if size == 512 {
-        return true;
-    }
-    if size == 1024 {
-        return true;
-    }
-    size == 2048
-}
-
-fn good_pages(pages: u64) -> bool
-    ensures { result ≡ good_pages pages }
-{
-    if pages == 4 {
-        return true;
-    }
-    if pages == 8 {
-        return true;
-    }
-    if pages == 16 {
-        return true;
-    }
-    pages == 32
-}
-
-fn good_sizes(size: u64, pages: u64, blocks: u64) -> bool
-    ensures { result ≡ good_geometry (sizes size pages blocks) }
-{
-    if !good_size(size) {
-        return false;
-    }
-    if !good_pages(pages) {
-        return false;
-    }
-    if blocks < 1 {
-        return false;
-    }
-    blocks <= 1024
-}
-
-/// The numbers of a G line. Right sizes have at most 16 bits.
-fn judge(size: u64, pages: u64, blocks: u64, next: usize) -> First
-    ensures { result ≡ sized (sizes size pages blocks) next }
-{
-    let good = good_sizes(size, pages, blocks);
-    if !good {
-        return First::WrongSizes;
-    }
     let g = Geometry {
-        size: size as u16,
-        pages: pages as u16,
-        blocks: blocks as u16,
+        size: u16::try_from(size).ok()?,
+        pages: u16::try_from(pages).ok()?,
+        blocks: u16::try_from(blocks).ok()?,
     };
-    let b = label::block_size(g);
-    if 32768 < blocks * b {
-        return First::BadG;
+    if label::good_geometry(g) {
+        Some(g)
+    } else {
+        None
     }
-    First::Sized(g, next)
 }
 
-fn first_at(s: &[u8], at: usize) -> First
-    ensures { result ≡ first_at s.now at }
+/// The sizes of a G line, which has that number, and the place past it.
+fn first_at(s: &[u8], at: usize, line: u64) -> Result<Field<Geometry>, Refusal>
+    ensures { result ≡ first_at s.now at line }
 {
-    let Field::Read { value: _, next: i } = text::head_at(s, at, b'G') else {
-        return First::BadG;
-    };
-    let Field::Read {
-        value: size,
-        next: j,
-    } = text::number_at(s, i, text::TAB)
-    else {
-        return First::BadG;
-    };
-    let Field::Read {
-        value: pages,
-        next: k,
-    } = text::number_at(s, j, text::TAB)
-    else {
-        return First::BadG;
-    };
-    let Field::Read {
-        value: blocks,
-        next,
-    } = text::number_at(s, k, text::NEWLINE)
-    else {
-        return First::BadG;
-    };
-    judge(size, pages, blocks, next)
+    let bad = Refusal::Dump(line);
+    let i = text::head_at(s, at, b'G').ok_or(bad)?;
+    let size = text::number_at(s, i, text::TAB).ok_or(bad)?;
+    let pages = text::number_at(s, size.next, text::TAB).ok_or(bad)?;
+    let blocks = text::number_at(s, pages.next, text::NEWLINE).ok_or(bad)?;
+    let g = right_sizes(size.value, pages.value, blocks.value).ok_or(Refusal::Geometry)?;
+    if 32768 < u64::from(g.blocks) * label::block_size(g) {
+        return Err(bad);
+    }
+    Ok(Field {
+        value: g,
+        next: blocks.next,
+    })
 }
 
 // ---- a B line and a P line
 
-fn label_at(s: &[u8], at: usize) -> Label
+fn label_at(s: &[u8], at: usize) -> Option<Label>
     ensures { result ≡ label_at s.now at }
 {
-    let Field::Read { value: _, next: i } = text::head_at(s, at, b'B') else {
-        return Label::BadB;
-    };
-    let Byte::Two {
-        value: tag,
-        next: j,
-    } = text::byte_at(s, i, text::TAB)
-    else {
-        return Label::BadB;
-    };
-    let Field::Read { value: path, next } = text::number_at(s, j, text::NEWLINE) else {
-        return Label::BadB;
-    };
-    Label::Tagged { tag, path, next }
+    let i = text::head_at(s, at, b'B')?;
+    let tag = text::byte_at(s, i, text::TAB)?;
+    let path = text::number_at(s, tag.next, text::NEWLINE)?;
+    Some(Label {
+        tag: tag.value,
+        path: path.value,
+        next: path.next,
+    })
 }
 
 fn place_of(block: u16, page: u16, pages: u16) -> u32
     ensures { result ≡ block * pages + page }
 {
-    block as u32 * pages as u32 + page as u32
+    u32::from(block) * u32::from(pages) + u32::from(page)
 }
 
 fn places(g: Geometry) -> u32
     ensures { result ≡ the_places g }
 {
-    g.blocks as u32 * g.pages as u32
+    u32::from(g.blocks) * u32::from(g.pages)
 }
 
-fn page_at(s: &[u8], at: usize, g: Geometry) -> Page
+fn page_at(s: &[u8], at: usize, g: Geometry) -> Option<Page>
     ensures { result ≡ page_at s.now at g }
 {
-    let Field::Read { value: _, next: i } = text::head_at(s, at, b'P') else {
-        return Page::BadP;
-    };
-    let Field::Read {
-        value: block,
-        next: j,
-    } = text::number_at(s, i, text::TAB)
-    else {
-        return Page::BadP;
-    };
-    let Field::Read {
-        value: page,
-        next: from,
-    } = text::number_at(s, j, text::TAB)
-    else {
-        return Page::BadP;
-    };
-    if block < g.blocks as u64 {
-        if page < g.pages as u64 {
-            let place = place_of(block as u16, page as u16, g.pages);
-            let Field::Read { value: count, next } = text::run_at(s, from, g.size) else {
-                return Page::BadP;
-            };
-            return Page::Bytes {
-                place,
-                from,
-                count,
-                next,
-            };
-        }
-        return Page::BadP;
+    let i = text::head_at(s, at, b'P')?;
+    let block = text::number_at(s, i, text::TAB)?;
+    let page = text::number_at(s, block.next, text::TAB)?;
+    if u64::from(g.blocks) <= block.value || u64::from(g.pages) <= page.value {
+        return None;
     }
-    Page::BadP
+    let run = text::run_at(s, page.next, g.size)?;
+    Some(Page {
+        place: place_of(block.value as u16, page.value as u16, g.pages),
+        from: page.next,
+        count: run.value,
+        next: run.next,
+    })
 }
 
-// ---- the lines, one after another; `first` is the number of the G line
+// ---- the lines, one after another: the place past them, or the first bad one; `first` is the number of the G line
 
-fn label_lines(s: &[u8], at: usize, blocks: u16, first: u32) -> Lines
+#[tactic(auto, unfolding(text::specs::Piece::on_read, crate::specs::Dump::label_step), using(crate::proofs::Loops::label_turn, crate::proofs::Loops::label_out))]
+fn label_lines(s: &[u8], at: usize, blocks: u16, first: u32) -> Result<usize, Refusal>
     ensures { result ≡ label_lines s.now blocks at (first + 1) }
 {
+    let start = u64::from(first) + 1;
     let mut i = at;
-    let mut line = first as u64 + 1;
-    let mut left = blocks;
-    while 0 < left {
-        match label_at(s, i) {
-            Label::Tagged {
-                tag: _,
-                path: _,
-                next,
-            } => {
-                i = next;
-                line += 1;
-                left -= 1;
-            }
-            Label::BadB => {
-                return Lines::BadLine(line);
-            }
-        }
+    for line in start..start + u64::from(blocks) {
+        i = label_at(s, i).ok_or(Refusal::Dump(line))?.next;
     }
-    Lines::Past(i)
+    Ok(i)
 }
 
-fn page_lines(s: &[u8], at: usize, g: Geometry, first: u32) -> Lines
+#[tactic(auto, unfolding(base::specs::Choice::if_less, base::specs::Choice::if_true, text::specs::Piece::on_read, crate::specs::Dump::page_step), using(crate::proofs::Loops::page_turn, crate::proofs::Loops::page_out))]
+fn page_lines(s: &[u8], at: usize, g: Geometry, first: u32) -> Result<usize, Refusal>
     ensures { result ≡ page_lines s.now g (the_places g + 1) at (first + 1 + g.blocks) 0 }
 {
-    let n = places(g);
+    let begin = u64::from(first) + 1 + u64::from(g.blocks);
+    let end = begin + u64::from(places(g)) + 1;
     let mut i = at;
-    let mut line = first as u64 + 1 + g.blocks as u64;
-    let mut left = n as u64 + 1;
     let mut floor: u64 = 0;
-    while 0 < left {
-        if i < s.len() {
-            match page_at(s, i, g) {
-                Page::Bytes {
-                    place,
-                    from: _,
-                    count: _,
-                    next,
-                } => {
-                    if (place as u64) < floor {
-                        return Lines::BadLine(line);
-                    }
-                    i = next;
-                    line += 1;
-                    floor = place as u64 + 1;
-                    left -= 1;
-                }
-                Page::BadP => {
-                    return Lines::BadLine(line);
-                }
-            }
-        } else {
-            return Lines::Past(i);
+    for line in begin..end {
+        if s.len() <= i {
+            return Ok(i);
         }
+        let page = page_at(s, i, g).ok_or(Refusal::Dump(line))?;
+        if u64::from(page.place) < floor {
+            return Err(Refusal::Dump(line));
+        }
+        i = page.next;
+        floor = u64::from(page.place) + 1;
     }
-    Lines::BadLine(line)
+    Err(Refusal::Dump(end))
 }
 
-/// What a dump says. Nothing is lent to it but the text.
-pub fn check(s: &[u8], first: u32) -> Dump
+/// What a dump says, or its refusal, GEOMETRY or DUMP. Nothing is lent to it but the text.
+pub fn check(s: &[u8], first: u32) -> Result<Dump, Refusal>
     ensures { result ≡ dump_of s.now first }
 {
-    match first_at(s, 0) {
-        First::Sized(g, labels) => match label_lines(s, labels, g.blocks, first) {
-            Lines::Past(pages) => match page_lines(s, pages, g, first) {
-                Lines::Past(_) => Dump::Fine(g, labels, pages),
-                Lines::BadLine(line) => Dump::Refused(Refusal::Dump(line)),
-            },
-            Lines::BadLine(line) => Dump::Refused(Refusal::Dump(line)),
-        },
-        First::WrongSizes => Dump::Refused(Refusal::Geometry),
-        First::BadG => Dump::Refused(Refusal::Dump(first as u64)),
-    }
+    let sizes = first_at(s, 0, u64::from(first))?;
+    let pages = label_lines(s, sizes.next, sizes.value.blocks, first)?;
+    page_lines(s, pages, sizes.value, first)?;
+    Ok(Dump {
+        geometry: sizes.value,
+        labels: sizes.next,
+        pages,
+    })
 }
 
 // ---- what a good dump puts into the lent slices
 
+#[tactic(auto, unfolding(text::specs::Piece::on_read), using(crate::proofs::Loops::labels_turn, crate::proofs::Loops::labels_out, text::proofs::Puts::put_in, crate::proofs::Loops::put_none))]
 fn put_labels(s: &[u8], at: usize, n: u16, tags: &mut [u8], paths: &mut [u64])
     requires n_in_bounds { n ≤ length tags.old }
     requires n_in_bounds_2 { n ≤ length paths.old }
@@ -310,94 +180,52 @@ fn put_labels(s: &[u8], at: usize, n: u16, tags: &mut [u8], paths: &mut [u64])
     ensures paths_after { paths.new ≡ put paths.old 0 (labels_from the_path s.now n at) }
 {
     let mut i = at;
-    let mut k: usize = 0;
-    let mut left = n;
-    while 0 < left {
-        match label_at(s, i) {
-            Label::Tagged { tag, path, next } => {
-                tags[k] = tag;
-                paths[k] = path;
-                i = next;
-                k += 1;
-                left -= 1;
-            }
-            Label::BadB => {
-                return;
-            }
-        }
+    for k in 0..usize::from(n) {
+        let Some(label) = label_at(s, i) else {
+            return;
+        };
+        tags[k] = label.tag;
+        paths[k] = label.path;
+        i = label.next;
     }
 }
 
+/// What has no room is left out.
+#[tactic(auto, unfolding(text::specs::Piece::on_read), using(crate::proofs::Loops::bytes_turn, crate::proofs::Loops::bytes_out, text::proofs::Puts::put_in, text::proofs::Puts::put_out, crate::proofs::Loops::put_none))]
 fn put_bytes(s: &[u8], at: usize, count: u64, l: &mut [u8], from: usize)
     ensures { l.new ≡ put l.old from (bytes_from s.now count at) }
 {
+    let end = from.saturating_add(count as usize).min(l.len());
     let mut i = at;
-    let mut k = from;
-    let mut left = count;
-    while 0 < left {
-        if l.len() <= k {
+    for k in from..end {
+        let Some(v) = text::hex_at(s, i) else {
             return;
-        }
-        let v = text::hex_at(s, i);
-        if v == 256 {
-            return;
-        }
-        l[k] = v as u8;
-        let h = text::past(s, i);
-        i = text::past(s, h);
-        k += 1;
-        left -= 1;
+        };
+        l[k] = v;
+        i = text::past(s, text::past(s, i));
     }
 }
 
 fn start_of(place: u32, size: u16) -> usize
     ensures { result ≡ place * size }
 {
-    place as usize * size as usize
+    place as usize * usize::from(size)
 }
 
+#[tactic(auto, unfolding(base::specs::Choice::if_less, base::specs::Choice::if_true, text::specs::Piece::on_read, crate::specs::Given::pages_step), using(crate::proofs::Loops::pages_turn, crate::proofs::Loops::pages_out))]
 fn put_pages(s: &[u8], at: usize, g: Geometry, l: &mut [u8])
     ensures { l.new ≡ pages_from s.now g (the_places g + 1) at l.old }
 {
-    let n = places(g);
     let mut i = at;
-    let mut left = n as u64 + 1;
-    while 0 < left {
+    for _page in 0..=places(g) {
         if s.len() <= i {
             return;
         }
-        match page_at(s, i, g) {
-            Page::Bytes {
-                place,
-                from,
-                count,
-                next,
-            } => {
-                let start = start_of(place, g.size);
-                put_bytes(s, from, count, l, start);
-                i = next;
-                left -= 1;
-            }
-            Page::BadP => {
-                return;
-            }
-        }
-    }
-}
-
-/// "bytes not given are 0xff": the first n are, before any is given.
-fn blank(l: &mut [u8], n: u64)
-    ensures { l.new ≡ put l.old 0 (replicate n 255) }
-{
-    let mut i: usize = 0;
-    let mut left = n;
-    while 0 < left {
-        if l.len() <= i {
+        let Some(page) = page_at(s, i, g) else {
             return;
-        }
-        l[i] = 255;
-        i += 1;
-        left -= 1;
+        };
+        put_bytes(s, page.from, page.count, l, start_of(page.place, g.size));
+        i = page.next;
     }
 }
 
@@ -409,37 +237,33 @@ pub fn parse_from(
     tags: &mut [u8],
     paths: &mut [u64],
     contents: &mut [u8],
-) -> Dump
+) -> Result<Dump, Refusal>
     ensures value { result ≡ answer s.now first (length tags.old) (length paths.old) (length contents.old) }
     ensures tags_after { tags.new ≡ tags_after result s.now tags.old }
     ensures paths_after { paths.new ≡ paths_after result s.now paths.old }
     ensures contents_after { contents.new ≡ contents_after result s.now contents.old }
 {
-    match check(s, first) {
-        Dump::Fine(g, labels, pages) => {
-            let n = g.blocks;
-            if tags.len() < n as usize {
-                return Dump::Refused(Refusal::Geometry);
-            }
-            if paths.len() < n as usize {
-                return Dump::Refused(Refusal::Geometry);
-            }
-            let b = label::block_size(g);
-            let bytes = n as u64 * b;
-            if contents.len() < bytes as usize {
-                return Dump::Refused(Refusal::Geometry);
-            }
-            put_labels(s, labels, n, tags, paths);
-            blank(contents, bytes);
-            put_pages(s, pages, g, contents);
-            Dump::Fine(g, labels, pages)
-        }
-        Dump::Refused(r) => Dump::Refused(r),
+    let dump = check(s, first)?;
+    let g = dump.geometry;
+    let n = usize::from(g.blocks);
+    let bytes = n * label::block_size(g) as usize;
+    if tags.len() < n || paths.len() < n || contents.len() < bytes {
+        return Err(Refusal::Geometry);
     }
+    put_labels(s, dump.labels, g.blocks, tags, paths);
+    // "bytes not given are 0xff": all are, before any is given
+    contents[..bytes].fill(0xff);
+    put_pages(s, dump.pages, g, contents);
+    Ok(dump)
 }
 
 /// Reads a dump that is the whole input.
-pub fn parse(s: &[u8], tags: &mut [u8], paths: &mut [u64], contents: &mut [u8]) -> Dump
+pub fn parse(
+    s: &[u8],
+    tags: &mut [u8],
+    paths: &mut [u64],
+    contents: &mut [u8],
+) -> Result<Dump, Refusal>
     ensures value { result ≡ answer s.now 1 (length tags.old) (length paths.old) (length contents.old) }
     ensures tags_after { tags.new ≡ tags_after result s.now tags.old }
     ensures paths_after { paths.new ≡ paths_after result s.now paths.old }

@@ -5,15 +5,15 @@ use mathlib.Core.List.{List, [], ◌∷◌, ◌++◌, append_assoc, append-nil, 
 use mathlib.Core.Logic.{⊎_elim}
 use native.Mathlib.Omega.{arith}
 use native.Mathlib.Nat.{le_refl}
-use lib.ListN.{length, take, drop, length-append, length-drop, length-map}
-use lib.Seq.{take_at, drop_at, length-take-le}
+use lib.ListN.{length, take, drop, length-append, length-map}
+use lib.Seq.{take_at, drop_at}
 use Rattle.meaning.specs.declared.Extent.{Extent}
 use Rattle.base.specs.Member.{All}
 use Rattle.base.proofs.Lists.{all_map}
 use Rattle.base.proofs.Tests.{lt_or}
 use Rattle.base.proofs.Choices.{less_no, eq_yes, eq_no, all_less, all_eq}
 use Rattle.meaning.specs.Replay.{spot, start, end, front, back, before, after, lay, others}
-use Rattle.extent.specs.Rows.{extent_of, row_of, runs, Fit, Lined, EndsBy, StartsFrom, Sound, Within, moved}
+use Rattle.extent.specs.Rows.{extent_of, row_of, runs, Fit, Lined, EndsBy, StartsFrom, Sound, Within}
 use Rattle.extent.proofs.Rows.{extents_of_rows, rows_within, runs_length}
 use Rattle.extent.proofs.Line.{push_eq, start_end, before_append, before_none, before_same, after_append, after_none, after_same, lined_le, lined_wider, lined_above, lined_append, starts_from}
 
@@ -158,7 +158,7 @@ pub lay_adds : (lo hi : ℕ) (v : Extent) (xs : List Extent) → Lined lo hi xs 
 unfolding lay
 lay_adds lo hi v xs w = simp length-append (omega (arith, pieces_few lo hi (start v) (end v) xs w (omega (arith, start_end v))))
 
--- ---- the rows that lay_over and move_rows leave
+-- ---- the rows that lay_over leaves
 module _ (rows : List (List ℕ)) (n : ℕ) (v : List ℕ) (r : ℕ) (left : List (List ℕ))
     (m : r ≡ length (lay (extent_of v) (runs rows n))) (t : left ≡ map row_of (lay (extent_of v) (runs rows n)) ++ drop r rows) where
   laid_length : length (map row_of (lay (extent_of v) (runs rows n))) ≡ r
@@ -179,10 +179,3 @@ module _ (rows : List (List ℕ)) (n : ℕ) (v : List ℕ) (r : ℕ) (left : Lis
 
     pub lay_within : Sound v → lo ≤ start (extent_of v) → end (extent_of v) ≤ hi → Within lo hi (take r left)
     lay_within s h u = rw laid_rows (rows_within lo hi (lay (extent_of v) (runs rows n)) (lay_lined lo hi (extent_of v) (runs rows n) w.lined s.fit h u))
-
-pub moved_rows : (rows : List (List ℕ)) (n q m : ℕ) → q ≤ n → n ≤ length rows → m ≤ length rows
-    → take (m + (n - q)) (moved rows n q m) ≡ take m rows ++ drop q (take n rows)
-moved_rows rows n q m hq hn hm =
-    rw (← append_assoc (take m rows) (drop q (take n rows)) (drop (m + (n - q)) rows))
-    (take_at (take m rows ++ drop q (take n rows)) (drop (m + (n - q)) rows) (m + (n - q))
-    (simp (length-append, length-drop) (omega (arith, length-take-le m rows hm, length-take-le n rows hn))))

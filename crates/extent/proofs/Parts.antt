@@ -6,16 +6,16 @@ use native.Mathlib.Omega.{arith}
 use native.Mathlib.Nat.{le_of_suc-le-suc}
 use lib.ListN.{length, take, drop, set, get_or, take-append-drop, length-take, length-drop, length-append, length-map}
 use lib.Seq.{take-suc, set_at, set_split, length-take-le, take-append-add, drop-append-add, drop-drop, append_snoc}
+use Rattle.std.specs.Prelude.{Option, Some, None}
+use Rattle.std.specs.declared.ops.Range.{Range}
+use Rattle.std.specs.List.{copy_within}
 use Rattle.meaning.specs.declared.Extent.{Extent}
 use Rattle.base.specs.Member.{All}
 use Rattle.base.proofs.Lists.{all_map}
 use Rattle.base.proofs.Choices.{less_yes, less_no}
 use Rattle.meaning.specs.Replay.{start, end, front, back, before, after, lay}
-use Rattle.extent.specs.Rows.{extent_of, row_of, runs, Four, Lined, Sound, Within, Layable, Split, Low, Ranged, pieces, moved, around}
-use Rattle.extent.specs.declared.Piece.{Piece}
-use Rattle.extent.specs.declared.Touched.{Touched}
-use Rattle.extent.proofs.Moves.{drop_take}
-use Rattle.extent.proofs.Rows.{all_left, all_right, row_back, rows_back, within_fewer, runs_take, runs_drop, runs_length, runs_at}
+use Rattle.extent.specs.Rows.{extent_of, row_of, runs, Four, Lined, Sound, Within, Layable, Split, Low, Ranged, pieces, around}
+use Rattle.extent.proofs.Rows.{drop_take, all_left, all_right, row_back, rows_back, within_fewer, runs_take, runs_drop, runs_length, runs_at}
 use Rattle.extent.proofs.Line.{before_length, lined_right, low_upto, high_from, before_last, after_last, lay_parts}
 
 -- ---- what a row says of those before it, and of those from it on
@@ -126,10 +126,19 @@ module _ {A : Type 0} where
       let j : p + (k - p) ≡ k = omega arith in
       ap (λ (n : ℕ). drop n (fs ++ drop p rows)) i ∙ drop-append-add fs (drop p rows) (k - p) ∙ drop-drop (k - p) p rows ∙ rw j
 
-  put_one : (fs ds ts : List A) (v w : A) (p : ℕ) → length fs ≡ p → 0 < length ds
-      → set (set (fs ++ (take 1 ds ++ ts)) p w) p v ≡ fs ++ (v ∷ ts)
-  put_one fs [] ts v w p e h = absurd (omega arith)
-  put_one fs (d ∷ ds) ts v w p e h = rw (set_at fs d ts w p e) (set_at fs w ts v p e)
+  -- what the table holds once rows q up to n have gone past fs and k + 1 rows more
+  copied : (fs rows : List A) (n p q k : ℕ) → length fs ≡ p → p ≤ q → q ≤ n
+      → copy_within (fs ++ drop p rows) q n (p + 1 + k) ≡ fs ++ (take (1 + k) (drop p rows) ++ (drop q (take n rows) ++ drop (p + 1 + k + (n - q)) rows))
+  copied fs rows n p q k e hp hq =
+      let f : take (n - q) (drop q (fs ++ drop p rows)) ≡ drop q (take n rows) = rw (past_front fs rows p q e hp) (sym (drop_take q n rows)) in
+      let i : p + 1 + k ≡ length fs + (1 + k) = omega arith in
+      let t : take (p + 1 + k) (fs ++ drop p rows) ≡ fs ++ take (1 + k) (drop p rows) =
+      ap (λ (m : ℕ). take m (fs ++ drop p rows)) i ∙ take-append-add fs (drop p rows) (1 + k) in
+      rw (f, t, past_front fs rows p (p + 1 + k + (n - q)) e (omega arith)) (simp append_assoc)
+
+  put_one : (fs ds ts : List A) (v : A) (p : ℕ) → length fs ≡ p → 0 < length ds → set (fs ++ (take 1 ds ++ ts)) p v ≡ fs ++ (v ∷ ts)
+  put_one fs [] ts v p e h = absurd (omega arith)
+  put_one fs (d ∷ ds) ts v p e h = set_at fs d ts v p e
 
   put_two : (fs ds ts : List A) (v w : A) (p : ℕ) → length fs ≡ p → 1 < length ds
       → set (set (fs ++ (take 2 ds ++ ts)) (p + 1) w) p v ≡ fs ++ (v ∷ (w ∷ ts))
@@ -139,25 +148,13 @@ module _ {A : Type 0} where
       let l : length (fs ++ (d ∷ [])) ≡ p + 1 = simp length-append (omega arith) in
       rw (← append_snoc fs d (c ∷ ts), set_at (fs ++ (d ∷ [])) c ts w (p + 1) l, append_snoc fs d (w ∷ ts)) (set_at fs d (w ∷ ts) v p e)
 
-  put_in : (fs ds ts : List A) (v w : A) (p k : ℕ) → length fs ≡ p → k ≤ 1 → k < length ds
-      → set (set (fs ++ (take (1 + k) ds ++ ts)) (p + 1 + k - 1) w) p v ≡ fs ++ (v ∷ (take k (w ∷ []) ++ ts))
-  put_in fs ds ts v w p zero e h l = let i : p + 1 + 0 - 1 ≡ p = omega arith in rw i (put_one fs ds ts v w p e l)
-  put_in fs ds ts v w p (suc zero) e h l = let i : p + 1 + 1 - 1 ≡ p + 1 = omega arith in rw i (put_two fs ds ts v w p e l)
-  put_in fs ds ts v w p (suc (suc k)) e h l = absurd (omega arith)
+  -- fs in front, v and perhaps w, and rows q up to n after them
+  module _ (fs rows : List A) (n p q : ℕ) (e : length fs ≡ p) (hp : p ≤ q) (hq : q ≤ n) (hn : n + 2 ≤ length rows) where
+    pub spliced_one : (v : A) → set (copy_within (fs ++ drop p rows) q n (p + 1 + 0)) p v ≡ (fs ++ (v ∷ drop q (take n rows))) ++ drop (p + 1 + 0 + (n - q)) rows
+    spliced_one v = rw (copied fs rows n p q 0 e hp hq, append_assoc) (put_one fs (drop p rows) _ v p e (omega (arith, length-drop p rows)))
 
-  -- what the table holds: fs in front, v and perhaps w, and rows q up to n after them
-  pub spliced : (fs rows : List A) (n p q k : ℕ) (v w : A) → length fs ≡ p → p ≤ q → q ≤ n → n ≤ length rows → k ≤ 1 → p + 1 + k + (n - q) ≤ length rows
-      → set (set (moved (fs ++ drop p rows) n q (p + 1 + k)) (p + 1 + k - 1) w) p v
-      ≡ (fs ++ (v ∷ (take k (w ∷ []) ++ drop q (take n rows)))) ++ drop (p + 1 + k + (n - q)) rows
-  spliced fs rows n p q k v w e hp hq hn hk hl =
-      let f : drop q (take n (fs ++ drop p rows)) ≡ drop q (take n rows) =
-      drop_take q n (fs ++ drop p rows) ∙ rw (past_front fs rows p q e hp) (sym (drop_take q n rows)) in
-      let i : p + 1 + k ≡ length fs + (1 + k) = omega arith in
-      let t : take (p + 1 + k) (fs ++ drop p rows) ≡ fs ++ take (1 + k) (drop p rows) =
-      ap (λ (m : ℕ). take m (fs ++ drop p rows)) i ∙ take-append-add fs (drop p rows) (1 + k) in
-      rw (f, t, past_front fs rows p (p + 1 + k + (n - q)) e (omega arith), append_assoc)
-      (put_in fs (drop p rows) (drop q (take n rows) ++ drop (p + 1 + k + (n - q)) rows) v w p k e hk (omega (arith, length-drop p rows))
-      ∙ simp append_assoc)
+    pub spliced_two : (v w : A) → set (set (copy_within (fs ++ drop p rows) q n (p + 1 + 1)) (p + 1) w) p v ≡ (fs ++ (v ∷ (w ∷ drop q (take n rows)))) ++ drop (p + 1 + 1 + (n - q)) rows
+    spliced_two v w = rw (copied fs rows n p q 1 e hp hq, append_assoc) (put_two fs (drop p rows) _ v w p e (omega (arith, length-drop p rows)))
 
 pub front_length : (rows : List (List ℕ)) (n p s : ℕ) → Low rows n p s → length (map row_of (before s (runs rows p))) ≡ p
 front_length rows n p s d =
@@ -165,47 +162,63 @@ front_length rows n p s d =
     let u : n ≤ length rows = d.room in
     length-map (before s (runs rows p)) row_of ∙ before_length s (runs rows p) d.low ∙ runs_length rows p (omega arith)
 
+-- v, the piece and the rows past the range
+pub around_length : (rows : List (List ℕ)) (n : ℕ) (g : Range ℕ) (s : ℕ) (v : List ℕ) (bs : List (List ℕ)) → Low rows n g.start s
+    → length (around s v bs rows n g) ≡ g.start + 1 + length bs + (n - g.end)
+around_length rows n g s v bs d =
+    let u : n ≤ length rows = d.room in
+    simp (length-append, length-drop) (omega (arith, front_length rows n g.start s d, length-take-le n rows u))
+
+-- v, and perhaps w, put past what stands before s
+module _ (rows : List (List ℕ)) (n : ℕ) (g : Range ℕ) (s : ℕ) (v : List ℕ) (d : Low rows n g.start s) (hp : g.start ≤ g.end) (hq : g.end ≤ n) (hn : n + 2 ≤ length rows) where
+  abbrev spread : ℕ → List (List ℕ)
+  spread k = copy_within (map row_of (before s (runs rows g.start)) ++ drop g.start rows) g.end n (g.start + 1 + k)
+
+  abbrev Put : Option (List ℕ) → ℕ → List (List ℕ) → Type 0
+  Put w k left = (g.start + 1 + k + (n - g.end) ≡ length (around s v (pieces w) rows n g)) × (set left g.start v ≡ around s v (pieces w) rows n g ++ drop (g.start + 1 + k + (n - g.end)) rows)
+
+  pub put_alone : (w : Option (List ℕ)) (k : ℕ) (left : List (List ℕ)) → w ≡ None → k ≡ 0 → left ≡ spread k → Put w k left
+  put_alone w k left o e f =
+      rw (f, o, e)
+      (omega (arith, around_length rows n g s v [] d), spliced_one (map row_of (before s (runs rows g.start))) rows n g.start g.end (front_length rows n g.start s d) hp hq hn v)
+
+  pub put_both : (w : Option (List ℕ)) (k : ℕ) (left : List (List ℕ)) (r : List ℕ) → w ≡ Some r → k ≡ 1 → left ≡ set (spread k) (g.start + 1) r → Put w k left
+  put_both w k left r o e f =
+      rw (f, o, e)
+      (omega (arith, around_length rows n g s v (r ∷ []) d), spliced_two (map row_of (before s (runs rows g.start))) rows n g.start g.end (front_length rows n g.start s d) hp hq hn v r)
+
 -- ---- the run laid, in those parts
-module _ (rows : List (List ℕ)) (n : ℕ) (v : List ℕ) (l : Layable rows n v) (g : Touched) (b : Piece) (s e : ℕ)
+module _ (rows : List (List ℕ)) (n : ℕ) (v : List ℕ) (l : Layable rows n v) (g : Range ℕ) (b : Option (List ℕ)) (s e : ℕ)
     (hs : s ≡ start (extent_of v)) (he : e ≡ end (extent_of v)) (r : Ranged s e (runs rows n) g)
-    (q : pieces b ≡ map row_of (after e (runs rows g.to))) (k : b.many ≤ 1) where
+    (q : pieces b ≡ map row_of (after e (runs rows g.end))) where
   hn : n ≤ length rows
   hn = omega (arith, l.room)
 
-  low : Low rows n g.from s
-  low = split_low rows n g.from s hn l.within r.low
+  low : Low rows n g.start s
+  low = split_low rows n g.start s hn l.within r.low
 
-  high : Low rows n g.to e
-  high = split_low rows n g.to e hn l.within r.high
+  high : Low rows n g.end e
+  high = split_low rows n g.end e hn l.within r.high
 
-  lay_is : map row_of (lay (extent_of v) (runs rows n)) ≡ around s v (pieces b) rows n g
+  pub lay_is : map row_of (lay (extent_of v) (runs rows n)) ≡ around s v (pieces b) rows n g
   lay_is =
-      let f : All Four (drop g.to (take n rows)) =
-      all_right Four (take g.to (take n rows)) (drop g.to (take n rows)) (rw (take-append-drop g.to (take n rows)) l.within.four) in
-      let y : after e (runs rows g.to) ≡ after (end (extent_of v)) (runs rows g.to) = rw he in
-      ap (map row_of) (lay_parts 0 (2 ^ 64) (runs rows n) l.within.lined (extent_of v) g.from g.to (rw hs at r.low) (rw he at r.high))
+      let f : All Four (drop g.end (take n rows)) =
+      all_right Four (take g.end (take n rows)) (drop g.end (take n rows)) (rw (take-append-drop g.end (take n rows)) l.within.four) in
+      let y : after e (runs rows g.end) ≡ after (end (extent_of v)) (runs rows g.end) = rw he in
+      ap (map row_of) (lay_parts 0 (2 ^ 64) (runs rows n) l.within.lined (extent_of v) g.start g.end (rw hs at r.low) (rw he at r.high))
       ∙ rw (
-        runs_take rows n g.from low.few,
-        runs_take rows n g.to high.few,
-        runs_drop rows n g.to,
+        runs_take rows n g.start low.few,
+        runs_take rows n g.end high.few,
+        runs_drop rows n g.end,
         ← hs,
         ← he,
-        map-append row_of (before s (runs rows g.from)) (extent_of v ∷ (after e (runs rows g.to) ++ map extent_of (drop g.to (take n rows)))),
-        map-append row_of (after e (runs rows g.to)) (map extent_of (drop g.to (take n rows))),
-        rows_back (drop g.to (take n rows)) f,
+        map-append row_of (before s (runs rows g.start)) (extent_of v ∷ (after e (runs rows g.end) ++ map extent_of (drop g.end (take n rows)))),
+        map-append row_of (after e (runs rows g.end)) (map extent_of (drop g.end (take n rows))),
+        rows_back (drop g.end (take n rows)) f,
         row_back v l.run.four,
         q,
       )
 
-  pub lay_length : g.from + 1 + b.many + (n - g.to) ≡ length (lay (extent_of v) (runs rows n))
-  lay_length =
-      let t : length (take n rows) ≡ n = length-take-le n rows hn in
-      let f : length (map row_of (before s (runs rows g.from))) ≡ g.from = front_length rows n g.from s low in
-      let c : length (pieces b) ≡ b.many = length-take-le b.many (b.row ∷ []) k in
-      let a : length (around s v (pieces b) rows n g) ≡ g.from + 1 + b.many + (n - g.to) = simp (length-append, length-drop) (omega (arith, f, c, t)) in
-      sym (sym (length-map (lay (extent_of v) (runs rows n)) row_of) ∙ ap length lay_is ∙ a)
-
-  pub laid : (left : List (List ℕ)) → left ≡ around s v (pieces b) rows n g ++ drop (g.from + 1 + b.many + (n - g.to)) rows
-      → (g.from + 1 + b.many + (n - g.to) ≡ length (lay (extent_of v) (runs rows n)))
-      × (left ≡ map row_of (lay (extent_of v) (runs rows n)) ++ drop (g.from + 1 + b.many + (n - g.to)) rows)
-  laid left z = (lay_length, z ∙ rw (sym lay_is))
+  pub laid : (left : List (List ℕ)) (k : ℕ) → k ≡ length (around s v (pieces b) rows n g) → left ≡ around s v (pieces b) rows n g ++ drop k rows
+      → (k ≡ length (lay (extent_of v) (runs rows n))) × (left ≡ map row_of (lay (extent_of v) (runs rows n)) ++ drop k rows)
+  laid left k f z = (f ∙ ap length (sym lay_is) ∙ length-map (lay (extent_of v) (runs rows n)) row_of, z ∙ rw (sym lay_is))

@@ -1,10 +1,11 @@
 -- Rows and their extents: each is made of the other, and rows in order are extents in order.
-use Prim.Native.Nat.{ℕ, zero, suc, ◌≤◌, ◌<◌}
+use Prim.Native.Nat.{ℕ, zero, suc, ◌-◌, ◌≤◌, ◌<◌}
 use mathlib.Core.Path.{◌≡◌, refl, ap, ◌∙◌}
 use mathlib.Core.List.{List, [], ◌∷◌, ◌++◌, map, map-append}
 use native.Mathlib.Omega.{arith}
 use lib.ListN.{length, take, drop, get_or, take-append-drop, length-map, get_or-map}
-use lib.Seq.{get_or-take, length-take-le, take-take}
+use lib.Seq.{get_or-take, length-take-le, take-take, take-nil}
+use Rattle.std.specs.List.{take-map, drop-map}
 use Rattle.meaning.specs.declared.Extent.{Extent}
 use Rattle.base.specs.Member.{All}
 use Rattle.base.proofs.Lists.{all_append}
@@ -22,16 +23,11 @@ module _ {A : Type 0} where
   all_right P [] ys p = p
   all_right P (x ∷ xs) ys p = all_right P xs ys p.1
 
-  map_take : {B : Type 0} (f : A → B) (n : ℕ) (xs : List A) → take n (map f xs) ≡ map f (take n xs)
-  map_take f zero xs = refl
-  map_take f (suc n) [] = refl
-  map_take f (suc n) (x ∷ xs) = ap (λ (ys : List _). f x ∷ ys) (map_take f n xs)
-
-  map_drop : {B : Type 0} (f : A → B) (n : ℕ) (xs : List A) → drop n (map f xs) ≡ map f (drop n xs)
-  map_drop f zero [] = refl
-  map_drop f zero (x ∷ xs) = refl
-  map_drop f (suc n) [] = refl
-  map_drop f (suc n) (x ∷ xs) = map_drop f n xs
+  pub drop_take : (q n : ℕ) (xs : List A) → drop q (take n xs) ≡ take (n - q) (drop q xs)
+  drop_take zero n xs = let e : n - 0 ≡ n = omega arith in rw e
+  drop_take (suc q) n [] = rw (take-nil n, take-nil (n - suc q))
+  drop_take (suc q) zero (x ∷ xs) = let e : 0 - suc q ≡ 0 = omega arith in rw e
+  drop_take (suc q) (suc n) (x ∷ xs) = let e : suc n - suc q ≡ n - q = omega arith in rw e (drop_take q n xs)
 
 -- ---- rows and their extents
 
@@ -46,10 +42,6 @@ row_back (a ∷ (b ∷ (c ∷ (d ∷ (f ∷ r))))) e = absurd (omega arith)
 pub rows_back : (rows : List (List ℕ)) → All Four rows → map row_of (map extent_of rows) ≡ rows
 rows_back [] h = refl
 rows_back (r ∷ rows) h = rw (row_back r h.0, rows_back rows h.1)
-
--- a row by its numbers
-pub same_row : {a b c d : ℕ} (x : Extent) → a ≡ x.path → b ≡ x.offset → c ≡ x.count → d ≡ x.address → a ∷ (b ∷ (c ∷ (d ∷ []))) ≡ row_of x
-same_row x e f g h = rw (e, f, g, h)
 
 pub all_rows : (xs : List Extent) → All Four (map row_of xs)
 all_rows [] = tt
@@ -80,10 +72,10 @@ within_fewer lo hi rows n k h w =
 
 module _ (rows : List (List ℕ)) (n : ℕ) where
   pub runs_take : (k : ℕ) → k ≤ n → take k (runs rows n) ≡ runs rows k
-  runs_take k h = map_take extent_of k (take n rows) ∙ rw (take-take k n rows h)
+  runs_take k h = take-map extent_of k (take n rows) ∙ rw (take-take k n rows h)
 
   pub runs_drop : (k : ℕ) → drop k (runs rows n) ≡ map extent_of (drop k (take n rows))
-  runs_drop k = map_drop extent_of k (take n rows)
+  runs_drop k = drop-map extent_of k (take n rows)
 
   pub runs_length : n ≤ length rows → length (runs rows n) ≡ n
   runs_length h = length-map (take n rows) extent_of ∙ length-take-le n rows h

@@ -1,10 +1,9 @@
 -- Extents as rows of numbers: path, offset, count, address.
-use Rattle.std.specs.Prelude.{ℕ, ◌+◌, ◌-◌, ◌^◌, ◌≤◌, ◌<◌, ◌≡◌, List, [], ◌∷◌, ◌++◌, map, length, get_or, take, drop}
+use Rattle.std.specs.Prelude.{ℕ, ◌+◌, ◌^◌, ◌≤◌, ◌<◌, ◌≡◌, List, [], ◌∷◌, ◌++◌, map, length, get_or, take, drop, Option, Some, None}
+use Rattle.std.specs.declared.ops.Range.{Range}
 use Rattle.meaning.specs.declared.Extent.{Extent}
 use Rattle.base.specs.Member.{All}
 use Rattle.meaning.specs.Replay.{start, end, before}
-use Rattle.extent.specs.declared.Piece.{Piece}
-use Rattle.extent.specs.declared.Touched.{Touched}
 
 abbrev pub extent_of : List ℕ → Extent
 extent_of r = record { path = get_or r 0 0; offset = get_or r 1 0; count = get_or r 2 0; address = get_or r 3 0 }
@@ -66,20 +65,17 @@ pub record Low (rows : List (List ℕ)) (n p k : ℕ) : Type 0 where
   pub within : Within 0 (2 ^ 64) (take n rows)
   pub low : All (λ (x : Extent). start x < k) (runs rows p)
 
--- the extents that start from s on and before e: those from one place up to another
-pub record Ranged (s e : ℕ) (xs : List Extent) (g : Touched) : Type 0 where
-  pub low : Split s xs g.from
-  pub high : Split e xs g.to
-  pub order : g.from ≤ g.to
+-- the extents that start from s on and before e: those of a range
+pub record Ranged (s e : ℕ) (xs : List Extent) (g : Range ℕ) : Type 0 where
+  pub low : Split s xs g.start
+  pub high : Split e xs g.end
+  pub order : g.start ≤ g.end
 
 -- a row or none
-abbrev pub pieces : Piece → List (List ℕ)
-pieces p = take p.many (p.row ∷ [])
-
--- what stands from q up to n, put at m; all else as it was
-abbrev pub moved : {A : Type 0} → List A → ℕ → ℕ → ℕ → List A
-moved xs n q m = take m xs ++ (drop q (take n xs) ++ drop (m + (n - q)) xs)
+abbrev pub pieces : Option (List ℕ) → List (List ℕ)
+pieces None = []
+pieces (Some r) = r ∷ []
 
 -- v and bs between what stands before s and the rows past the range
-abbrev pub around : ℕ → List ℕ → List (List ℕ) → List (List ℕ) → ℕ → Touched → List (List ℕ)
-around s v bs rows n g = map row_of (before s (runs rows g.from)) ++ (v ∷ (bs ++ drop g.to (take n rows)))
+abbrev pub around : ℕ → List ℕ → List (List ℕ) → List (List ℕ) → ℕ → Range ℕ → List (List ℕ)
+around s v bs rows n g = map row_of (before s (runs rows g.start)) ++ (v ∷ (bs ++ drop g.end (take n rows)))

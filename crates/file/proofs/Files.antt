@@ -1,17 +1,18 @@
 -- The file of a path, and what a read answers of it.
-use Prim.Native.Nat.{ℕ, ◌+◌, ◌-◌, ◌^◌, ◌<◌, ◌≤◌, min}
+use Prim.Native.Nat.{ℕ, ◌-◌, ◌^◌, ◌<◌, ◌≤◌, min}
 use mathlib.Core.Path.{◌≡◌, refl, sym, ap, subst, ◌∙◌}
-use mathlib.Core.Logic.{◌≢◌, ⊎_elim}
-use mathlib.Core.Bool.{Bool, true, false}
+use mathlib.Core.Bool.{Bool, true, false, cond}
 use mathlib.Core.Option.{Option, none, some}
 use mathlib.Core.List.{List, [], ◌∷◌, map}
 use native.Mathlib.Omega.{arith}
-use native.Mathlib.Numerals.{add-one}
-use lib.ListN.{length, take, drop, get_or, drop_of_length-le}
-use lib.Seq.{drop-cons, get_or-take, length-take-le}
-use Rattle.base.specs.Choice.{if_true, on_some}
-use Rattle.base.proofs.Tests.{eq_or, zero_one}
-use Rattle.base.proofs.Choices.{eq_yes, eq_no}
+use native.Mathlib.Nat.{sub-zero}
+use lib.Dec.{eqb}
+use lib.ListN.{length, get_or, take}
+use Rattle.std.specs.List.{find}
+use Rattle.std.specs.Prelude as std
+use Rattle.std.specs.Prelude.{None, Some, Err}
+use Rattle.std.specs.Option.{ok_or}
+use Rattle.base.specs.Choice.{if_true, if_eq, on_some}
 use Rattle.meaning.specs.declared.Extent.{Extent}
 use Rattle.meaning.specs.declared.Geometry.{Geometry}
 use Rattle.meaning.specs.declared.Record.{Record}
@@ -19,87 +20,87 @@ use Rattle.meaning.specs.declared.Refusal.{Refusal}
 use Rattle.meaning.specs.declared.Refusal.TheVariants as refused
 use Rattle.meaning.specs.Answer.{Answer, ok, no, and_then}
 use Rattle.meaning.specs.Flash.{Lent, Image, image_of}
-use Rattle.meaning.specs.Replay.{bit31, is_dir, look}
 use Rattle.meaning.specs.Mount.{Mounted, mount_of}
+use Rattle.meaning.specs.Replay.{bit31, is_dir, look}
 use Rattle.meaning.specs.Services.{buffer_after, bytes_from, copied, read, readable}
-use Rattle.extent.specs.Rows.{extent_of}
-use Rattle.replay.specs.declared.Said.{Said}
-use Rattle.replay.specs.declared.Said.TheVariants.{Whole, Refused}
-use Rattle.replay.specs.Replay.{answer_by}
+use Rattle.extent.specs.Rows.{extent_of, Within}
 use Rattle.shown.specs.declared.Shown.{Shown}
-use Rattle.shown.specs.Shown as show
-use Rattle.shown.specs.Shown.{mounted, showing}
-use Rattle.file.specs.declared.Length.{Length}
-use Rattle.file.specs.declared.Length.TheVariants.{Of, Nothing}
-use Rattle.file.specs.File.{length_of, Low}
+use Rattle.shown.specs.Shown.{Lines, mounted, rows_shown}
+use Rattle.shown.proofs.Lines.{rows_low}
+use Rattle.file.specs.File.{length_of}
 
--- ---- the search, one record after another
+-- ---- the file of a path
 
-module _ (p : ℕ) (rs : List Record) (n k : ℕ) (d : Record) (few : n ≤ length rs) (e : look p (take n rs) ≡ look p (drop k (take n rs))) where
-  next : k < n → drop k (take n rs) ≡ get_or rs k d ∷ drop (k + 1) (take n rs)
-  next h =
-      drop-cons (take n rs) k d (omega (arith, length-take-le n rs few))
-      ∙ rw (get_or-take n rs k d h, add-one k)
+abbrev pub is_at : ℕ → Record → Bool
+is_at p f = eqb f.path p
 
-  pub look_hit : k < n → (get_or rs k d).path ≡ p → look p (take n rs) ≡ some (get_or rs k d)
-  unfolding look
-  look_hit h z = e ∙ ap (look p) (next h) ∙ eq_yes (get_or rs k d).path p _ _ z
+by_option : std.Option Record → Option Record
+by_option None = none
+by_option (Some f) = some f
 
-  pub look_on : k < n → ((get_or rs k d).path ≡ p → ⊥) → look p (take n rs) ≡ look p (drop (k + 1) (take n rs))
-  unfolding look
-  look_on h z = e ∙ ap (look p) (next h) ∙ eq_no (get_or rs k d).path p _ _ z
+look_step : (p : ℕ) (f : Record) (rs : List Record) (b : Bool) → look p rs ≡ by_option (find (is_at p) rs)
+    → cond b (some f) (look p rs) ≡ by_option (cond b (Some f) (find (is_at p) rs))
+unfolding by_option
+look_step p f rs true e = refl
+look_step p f rs false e = e
 
-pub look_end : (p : ℕ) (rs : List Record) (n k : ℕ) → n ≤ length rs → look p (take n rs) ≡ look p (drop k (take n rs)) → n ≤ k → Nothing ≡ length_of (look p (take n rs))
-unfolding length_of on_some look
-look_end p rs n k few e h = sym (ap length_of (e ∙ ap (look p) (drop_of_length-le (take n rs) {i = k} (omega (arith, length-take-le n rs few)))))
+look_find : (p : ℕ) (rs : List Record) → look p rs ≡ by_option (find (is_at p) rs)
+unfolding look if_eq if_true by_option
+look_find p [] = refl
+look_find p (f ∷ rs) = look_step p f rs (eqb f.path p) (look_find p rs)
 
-pub folder_is : (o : Option Record) (f : Record) {u : Bool} → o ≡ some f → u ≡ bit31 f.perm → u ≡ true → Nothing ≡ length_of o
-unfolding length_of on_some if_true is_dir
-folder_is o f e a b = rw (e, sym a ∙ b)
+module _ (p : ℕ) (rs : List Record) where
+  pub nobody : find (is_at p) rs ≡ None → None ≡ length_of (look p rs)
+  unfolding length_of on_some by_option
+  nobody e = rw (look_find p rs, e)
 
-pub plain_is : (o : Option Record) (f : Record) {u : Bool} → o ≡ some f → u ≡ bit31 f.perm → u ≡ false → Of f.length ≡ length_of o
-unfolding length_of on_some if_true is_dir
-plain_is o f e a b = rw (e, sym a ∙ b)
+  pub folder : {f : Record} → find (is_at p) rs ≡ Some f → true ≡ bit31 f.perm → None ≡ length_of (look p rs)
+  unfolding length_of on_some if_true is_dir by_option
+  folder e d = rw (look_find p rs, e, ← d)
 
--- ---- what a read answers
+  pub plain : {f : Record} → find (is_at p) rs ≡ Some f → false ≡ bit31 f.perm → Some f.length ≡ length_of (look p rs)
+  unfolding length_of on_some if_true is_dir by_option
+  plain e d = rw (look_find p rs, e, ← d)
 
-abbrev rank : Length → ℕ
-rank Nothing = 0
-rank (Of n) = 1
+pub ruleset lengths = (nobody, folder, plain)
 
-abbrev size : Length → ℕ
-size Nothing = 0
-size (Of n) = n
+-- ---- what a read answers, and leaves in the buffer
 
-refuse_or : (p x room : ℕ) (f : Record) (b : Bool) → if_true b Nothing (Of f.length) ≡ Nothing → if_true b (no (refused.NoFile p)) (ok (min room (f.length - x))) ≡ no (refused.NoFile p)
-unfolding if_true
-refuse_or p x room f true h = refl
-refuse_or p x room f false h = absurd (zero_one (ap rank (sym h)))
+-- no byte
+none_copied : (g : Geometry) (m : Image) (xs : List Extent) (p x : ℕ) (buffer : List ℕ) → buffer ≡ copied g m xs p x buffer 0
+unfolding copied bytes_from
+none_copied g m xs p x buffer = refl
 
-answer_or : (p x room len : ℕ) (f : Record) (b : Bool) → if_true b Nothing (Of f.length) ≡ Of len → if_true b (no (refused.NoFile p)) (ok (min room (f.length - x))) ≡ ok (min room (len - x))
-unfolding if_true
-answer_or p x room len f true h = absurd (zero_one (ap rank h))
-answer_or p x room len f false h = ap {B = Answer ℕ} (λ n. ok (min room (n - x))) (ap size h)
+module _ (p x room : ℕ) where
+  -- what is answered of a record or none
+  abbrev of_file : Option Record → Answer ℕ
+  of_file o = on_some o (no (refused.NoFile p)) (λ f. if_true (is_dir f) (no (refused.NoFile p)) (ok (min room (f.length - x))))
 
-nobody : (p x room : ℕ) (a : Mounted) (o : Option Record) → look p a.tree.records ≡ o → length_of o ≡ Nothing → readable a p x room ≡ no (refused.NoFile p)
-unfolding readable length_of on_some
-nobody p x room a none e h = rw e
-nobody p x room a (some f) e h = rw e (refuse_or p x room f (is_dir f) h)
+  torn : (f : Record) (b : Bool) → if_true b None (Some f.length) ≡ None → if_true b (no (refused.NoFile p)) (ok (min room (f.length - x))) ≡ no (refused.NoFile p)
+  unfolding if_true
+  torn f true h = refl
+  torn f false h = absurd (cc)
 
-somebody : (p x room len : ℕ) (a : Mounted) (o : Option Record) → look p a.tree.records ≡ o → length_of o ≡ Of len → readable a p x room ≡ ok (min room (len - x))
-unfolding readable length_of on_some
-somebody p x room len a none e h = absurd (zero_one (ap rank h))
-somebody p x room len a (some f) e h = rw e (answer_or p x room len f (is_dir f) h)
+  whole : (f : Record) (b : Bool) {len : ℕ} → if_true b None (Some f.length) ≡ Some len → if_true b (no (refused.NoFile p)) (ok (min room (f.length - x))) ≡ ok (min room (len - x))
+  unfolding if_true
+  whole f true h = absurd (cc)
+  whole f false {len} h = let y : f.length ≡ len = cc in ap {B = Answer ℕ} (λ k. ok (min room (k - x))) y
 
-module _ (g : Geometry) (l : Lent) (s : Shown) (rows : List (List ℕ)) (e : showing s rows ≡ mount_of g l) (p x : ℕ) (buffer : List ℕ) where
-  stopped : {r : Refusal} → s.said ≡ Refused r → mount_of g l ≡ no r
-  stopped h = sym e ∙ ap (λ (y : Said). answer_by y (mounted s rows)) h
+  absent_is : (o : Option Record) → length_of o ≡ None → of_file o ≡ no (refused.NoFile p)
+  unfolding length_of on_some
+  absent_is none h = refl
+  absent_is (some f) h = torn f (is_dir f) h
 
-  pub stopped_read : {r : Refusal} → s.said ≡ Refused r → no r ≡ read g l p x (length buffer)
-  unfolding read and_then
-  stopped_read h = rw (stopped h)
+  plain_is : (o : Option Record) {len : ℕ} → length_of o ≡ Some len → of_file o ≡ ok (min room (len - x))
+  unfolding length_of on_some
+  plain_is none h = absurd (cc)
+  plain_is (some f) h = whole f (is_dir f) h
 
-  -- the buffer, by what the mount and then the read answer
+module _ (g : Geometry) (l : Lent) (p x : ℕ) (buffer : List ℕ) where
+  abbrev pub Reads : Answer ℕ → List ℕ → Type 0
+  Reads o after = (o ≡ read g l p x (length buffer)) × (after ≡ buffer_after g l p x buffer)
+
+  -- by what the mount and then the read answer
   abbrev by_read : Mounted → Answer ℕ → List ℕ
   by_read a o = elim o [ no r ↦ buffer | ok n ↦ copied g (image_of g l) a.tree.extents p x buffer n ]
 
@@ -110,65 +111,47 @@ module _ (g : Geometry) (l : Lent) (s : Shown) (rows : List (List ℕ)) (e : sho
   unfolding buffer_after
   after_is = refl
 
-  pub stopped_buffer : {r : Refusal} → s.said ≡ Refused r → buffer ≡ buffer_after g l p x buffer
-  stopped_buffer h = sym (after_is ∙ ap by_mount (stopped h))
-
-  module _ (h : s.said ≡ Whole) where
-    accepted : mount_of g l ≡ ok (mounted s rows)
-    accepted = sym e ∙ ap (λ (y : Said). answer_by y (mounted s rows)) h
-
-    pub no_read : {v : Length} → v ≡ length_of (look p (take s.files s.records)) → v ≡ Nothing → no (refused.NoFile p) ≡ read g l p x (length buffer)
-    unfolding read and_then
-    no_read a b = rw (accepted, nobody p x (length buffer) (mounted s rows) _ refl (sym a ∙ b))
-
-    pub no_buffer : {v : Length} → v ≡ length_of (look p (take s.files s.records)) → v ≡ Nothing → buffer ≡ buffer_after g l p x buffer
-    no_buffer a b = sym (after_is ∙ ap by_mount accepted ∙ ap (by_read (mounted s rows)) (nobody p x (length buffer) (mounted s rows) _ refl (sym a ∙ b)))
-
-    module _ {v : Length} {len n : ℕ} (a : v ≡ length_of (look p (take s.files s.records))) (b : v ≡ Of len) (z : n ≡ min (length buffer) (len - x)) where
-      pub yes_read : ok n ≡ read g l p x (length buffer)
-      unfolding read and_then
-      yes_read = rw (accepted, somebody p x (length buffer) len (mounted s rows) _ refl (sym a ∙ b), z)
-
-      pub yes_buffer : {after : List ℕ} (xs : List (List ℕ)) → xs ≡ take s.extents rows → after ≡ copied g (image_of g l) (map extent_of xs) p x buffer n → after ≡ buffer_after g l p x buffer
-      yes_buffer xs xe c =
-          c ∙ ap (λ (ys : List (List ℕ)). copied g (image_of g l) (map extent_of ys) p x buffer n) xe
-          ∙ ap (copied g (image_of g l) (map extent_of (take s.extents rows)) p x buffer) z
-          ∙ sym (after_is ∙ ap by_mount accepted ∙ ap (by_read (mounted s rows)) (somebody p x (length buffer) len (mounted s rows) _ refl (sym a ∙ b)))
-
--- no byte: the buffer is as it was
-pub none_copied : (g : Geometry) (m : Image) (xs : List Extent) (p x : ℕ) (buffer : List ℕ) → buffer ≡ copied g m xs p x buffer 0
-unfolding copied bytes_from
-none_copied g m xs p x buffer = refl
-
--- ---- numbers
-
-pub min_most : (room len x n : ℕ) → n ≡ min room (len - x) → (n ≤ room) × (n ≤ len - x)
-min_most room len x n e = (omega arith, omega arith)
-
--- ---- rows
-
-pub low_none : (rows : List (List ℕ)) → Low rows 0
-low_none rows i h = omega arith
-
-pub low_more : (rows : List (List ℕ)) (k : ℕ) {r : ℕ} → Low rows k → (r ≡ get_or (get_or rows k []) 0 0) × (r < 2 ^ 32) → Low rows (k + 1)
-low_more rows k w e i h = ⊎_elim
-    (λ (z : i ≡ k). rw z (omega (arith, e.0, e.1)))
-    (λ (z : i ≢ k). w i (omega (arith, z)))
-    (eq_or i k)
-
-pub low_all : (rows : List (List ℕ)) (k : ℕ) → k ≤ length rows → length rows ≤ k → Low rows k → Low rows (length rows)
-low_all rows k a b w i h = w i (omega arith)
-
--- ---- an answer by its parts
-
-pub whole_sizes : (g : Geometry) (l : Lent) (s : Shown) (rows : List (List ℕ)) → show.Sized g l s rows → s.said ≡ Whole → show.Sizes Whole g l s rows
-whole_sizes g l s rows w e = subst (λ (y : Said). show.Sizes y g l s rows) e w
-
-module _ (g : Geometry) (l : Lent) (p x : ℕ) (buffer : List ℕ) {r : Refusal} (e : mount_of g l ≡ no r) where
-  pub refused_read : no r ≡ read g l p x (length buffer)
+  pub refused_reads : {r : Refusal} → mount_of g l ≡ no r → Reads (no r) buffer
   unfolding read and_then
-  refused_read = rw e
+  refused_reads e = (rw e, sym (after_is ∙ ap by_mount e))
 
-  pub refused_buffer : buffer ≡ buffer_after g l p x buffer
-  unfolding buffer_after
-  refused_buffer = sym (ap (λ (o : Answer Mounted). elim o [ no q ↦ buffer | ok a ↦ elim (readable a p x (length buffer)) [ no q ↦ buffer | ok n ↦ copied g (image_of g l) a.tree.extents p x buffer n ] ]) e)
+  module _ (s : Shown) (rows : List (List ℕ)) (e : ok (mounted s rows) ≡ mount_of g l) where
+    so : {o : Answer ℕ} → readable (mounted s rows) p x (length buffer) ≡ o → Reads o (by_read (mounted s rows) o)
+    unfolding read and_then readable
+    so h = (rw (← e) (sym h), sym (after_is ∙ ap by_mount (sym e) ∙ ap (by_read (mounted s rows)) h))
+
+    -- what the search finds among the records that are shown
+    module _ {o : std.Option ℕ} (found : o ≡ length_of (look p (take (s.files - 0) s.records))) where
+      found_is : o ≡ length_of (look p (take s.files s.records))
+      found_is = found ∙ ap (λ (k : ℕ). length_of (look p (take k s.records))) (sub-zero s.files)
+
+      pub absent_reads : o ≡ None → Reads (no (refused.NoFile p)) buffer
+      unfolding readable
+      absent_reads h = so (absent_is p x (length buffer) (look p (take s.files s.records)) (sym found_is ∙ h))
+
+      module _ {len n : ℕ} (h : o ≡ Some len) (z : n ≡ min (length buffer) (len - x)) where
+        answered : readable (mounted s rows) p x (length buffer) ≡ ok n
+        unfolding readable
+        answered = plain_is p x (length buffer) (look p (take s.files s.records)) (sym found_is ∙ h) ∙ ap {B = Answer ℕ} ok (sym z)
+
+        pub plain_reads : {after : List ℕ} → after ≡ copied g (image_of g l) (map extent_of (take (s.extents - 0) rows)) p x buffer n → Reads (ok n) after
+        plain_reads c =
+            let w = so answered in
+            (w.0, c ∙ ap (λ (k : ℕ). copied g (image_of g l) (map extent_of (take k rows)) p x buffer n) (sub-zero s.extents) ∙ w.1)
+
+        -- no byte: the buffer is as it was
+        pub none_reads : n ≤ 0 → Reads (ok n) buffer
+        none_reads k =
+            let w = so answered in
+            let y : 0 ≡ n = omega arith in
+            (w.0, none_copied g (image_of g l) (rows_shown rows s.extents) p x buffer ∙ ap (copied g (image_of g l) (rows_shown rows s.extents) p x buffer) y ∙ w.1)
+
+-- ---- what the code asks
+
+-- no value, so the error that is given
+pub none_of : {o : std.Option ℕ} {r y : Refusal} → Err y ≡ ok_or o r → o ≡ None → y ≡ r
+none_of {o} {r} {y} e h = let z : Err y ≡ Err r = e ∙ ap (λ (v : std.Option ℕ). ok_or v r) h in cc
+
+pub rows_within : (rows : List (List ℕ)) (n : ℕ) → Lines (take n rows) → ((i : ℕ) → i < length (take (n - 0) rows) → get_or (get_or (take (n - 0) rows) i []) 0 0 < 2 ^ 32)
+    → Within 0 (2 ^ 64) (take (n - 0) rows)
+rows_within rows n w h = rows_low _ (subst Lines (ap (λ (k : ℕ). take k rows) (sym (sub-zero n))) w) h

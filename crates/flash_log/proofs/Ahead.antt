@@ -9,6 +9,7 @@ use native.Mathlib.Omega.{arith}
 use lib.ListN.{length, get_or, drop}
 use lib.Dec.{T, eqb, eqb→eq}
 use borrow.Author.Tests.{eq-eqb, ne_eqb}
+use Rattle.std.specs.Prelude as std
 use Rattle.base.specs.Choice.{is_some}
 use Rattle.base.specs.Scan.{all_of}
 use Rattle.base.proofs.Tests.{and_l, is_false, lt_or}
@@ -30,7 +31,6 @@ use Rattle.replayed.proofs.Parses.{Sound, parse_sound}
 use Rattle.replayed.proofs.Fuel.{enough}
 use Rattle.flash_log.specs.declared.Cursor.{Cursor}
 use Rattle.flash_log.specs.declared.Opening.{Opening}
-use Rattle.flash_log.specs.declared.Start.{Start}
 use Rattle.flash_log.specs.declared.Turn.{Turn}
 use Rattle.flash_log.specs.declared.Turn.TheVariants.{On}
 use Rattle.flash_log.specs.Turn.{begun, block_at, fresh, in_page, next_page, on_block, onto, opened, page_at, said, spoken, turn_of}
@@ -126,7 +126,7 @@ module _ (g : Geometry) (l : Lent) (s : Sizes g l) where
   abbrev Is : ℕ → Log → Turn → Type 0
   Is = Says g l plan
 
-  abbrev Onto : ℕ → Log → Start → Type 0
+  abbrev Onto : ℕ → Log → std.Option Cursor → Type 0
   Onto bound log x = Is bound log (onto x)
 
   ahead_start : (c : Cursor) → c.k < total → c.at ≡ 0

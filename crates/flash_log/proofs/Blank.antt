@@ -1,13 +1,15 @@
 -- The insertion point: the scan of a block's pages, and the last of the blocks that are replayed.
 use mathlib.Core.Path.{◌≡◌, refl, sym, ap, ap₂, ◌∙◌, subst}
-use mathlib.Core.Bool.{Bool, true, false, ◌&&◌}
+use mathlib.Core.Bool.{Bool, true, ◌&&◌}
 use mathlib.Core.Option.{Option, none, some}
 use mathlib.Core.List.{List, [], ◌∷◌}
 use Prim.Native.Nat.{ℕ, zero, suc, ◌+◌, ◌-◌, ◌*◌, ◌≤◌, ◌<◌}
 use native.Mathlib.Omega.{arith}
-use lib.ListN.{length, take, drop}
+use lib.ListN.{length, drop}
 use lib.Seq.{drop-nil}
 use lib.Dec.{T, ltb, lt→ltb}
+use Rattle.std.specs.Prelude as std
+use Rattle.std.specs.Prelude.{Some, None}
 use Rattle.base.specs.Choice.{if_true, is_some, on_some, or_zero}
 use Rattle.base.specs.Scan.{first}
 use Rattle.base.proofs.Tests.{and_i}
@@ -23,13 +25,10 @@ use Rattle.meaning.specs.Flash.{Image, Labels, Lent, address_of, begins, blank, 
 use Rattle.meaning.specs.Labels.{active_generation, find, find_log, generation_at, has, log_plan, lowest_number, plan_from, plan_of, unbroken, view}
 use Rattle.meaning.specs.Log.{LogBlock, bytes_at, insertion, log_block, log_page, replayed}
 use Rattle.label.specs.Search.{found}
-use Rattle.label.specs.declared.Found.{Found}
-use Rattle.label.specs.declared.Found.TheVariants as label
 use Rattle.label.proofs.Answered.{at_some, at_below, nothing_none}
-use Rattle.label.proofs.Scanned.{Clear, clear_start, clear_more, first_hit, first_clear}
+use Rattle.label.proofs.Scanned.{Clear, first_hit, first_clear}
 use Rattle.flash_log.specs.Cursor.{Ready, number_at}
 use Rattle.flash_log.specs.Point.{blank_page, is_blank, point}
-use Rattle.flash_log.specs.declared.insertion.Point.TheVariants.{At, Nowhere}
 use Rattle.flash_log.proofs.Sizes.{Sizes, sizes, block_in}
 use Rattle.flash_log.proofs.Planned.{block_stands, block_of, drop_block, drop_end, number_of}
 use Rattle.flash_log.proofs.Paged.{page_bytes}
@@ -38,27 +37,15 @@ use Rattle.flash_log.proofs.Ahead.{plan_is}
 -- ---- the pages of a block, in turn
 
 module _ (g : Geometry) (contents : List ℕ) (begin : ℕ) where
-  -- v is the code's answer for the page that is lent, k bytes of it
-  pub blank_told : {v : Bool} (k p : ℕ) → k ≡ g.size → v ≡ blank (take k (drop (begin + p * g.size) contents)) → v ≡ is_blank g contents begin p
-  unfolding is_blank
-  blank_told k p h e = e ∙ ap (λ (x : ℕ). blank (take x (drop (begin + p * g.size) contents))) h
-
   abbrev q : ℕ → Bool
   q = is_blank g contents begin
 
-  pub blank_start : (i : ℕ) → i ≡ 0 → Clear q i
-  blank_start i e = subst (Clear q) (sym e) (clear_start q g.pages)
+  -- v is the code's answer for page p, the one to be looked at, and x the address of that page
+  pub blank_hit : {v : Bool} {x : Address} {p : ℕ} (n i : ℕ) → Clear q i → i < g.pages → p ≡ i → v ≡ q p → v ≡ true → x.0 ≡ address_of g n p 0 → Some x ≡ point (blank_page g contents begin n)
+  unfolding blank_page point on_some
+  blank_hit n i c l s e f a = rw (first_hit q g.pages i c l (e ∙ ap q s) f) (ap (λ (k : ℕ). Some (address k)) (a ∙ ap (λ (k : ℕ). address_of g n k 0) s))
 
-  -- v is the code's answer for page p, which is the one to be looked at
-  module _ {v : Bool} {p : ℕ} (i : ℕ) (c : Clear q i) (e : v ≡ is_blank g contents begin p) where
-    pub blank_more : (j : ℕ) → v ≡ false → p ≡ i → j ≡ i + 1 → Clear q j
-    blank_more j f s t = subst (Clear q) (sym t) (clear_more q g.pages i c (e ∙ ap q s) f)
-
-    pub blank_hit : {x : Address} (n : ℕ) → v ≡ true → p ≡ i → i < g.pages → x.0 ≡ address_of g n p 0 → At x ≡ point (blank_page g contents begin n)
-    unfolding blank_page point on_some
-    blank_hit n f s l a = rw (first_hit q g.pages i c l (e ∙ ap q s) f) (ap (λ (k : ℕ). At (address k)) (a ∙ ap (λ (k : ℕ). address_of g n k 0) s))
-
-  pub blank_none : (n i : ℕ) → Clear q i → g.pages ≤ i → Nowhere ≡ point (blank_page g contents begin n)
+  pub blank_none : (n i : ℕ) → Clear q i → g.pages ≤ i → None ≡ point (blank_page g contents begin n)
   unfolding blank_page point on_some
   blank_none n i c l = rw (first_clear q g.pages i c l)
 
@@ -116,7 +103,7 @@ module _ (g : Geometry) (l : Lent) (p : Plan) (r : Ready g l p) where
   same : p ≡ plan
   same = plan_is g l p r
 
-  pub nowhere : p.active ≡ 0 → Nowhere ≡ point (insertion g (replayed g m))
+  pub nowhere : p.active ≡ 0 → None ≡ point (insertion g (replayed g m))
   unfolding point insertion
   nowhere e =
       let a : plan.active ≡ 0 = ap (λ (x : Plan). x.active) (sym same) ∙ e in
@@ -148,16 +135,16 @@ module _ (g : Geometry) (l : Lent) (p : Plan) (r : Ready g l p) where
         let w : plan.swept + plan.active ≤ k + 1 = omega (arith, within) in
         of_last g k (replayed g m) (block_of g m k) [] (drop_block g m k u ∙ ap (λ (ls : List LogBlock). block_of g m k ∷ ls) (drop_end g m (k + 1) w))
 
-    module _ {x : Found} (f : x ≡ found (find (length l.tags) (view (length l.tags) (labels_of l.tags l.paths) means.Log) (log_r n (generation_at p n)))) where
+    module _ {x : std.Option Block} (f : x ≡ found (find (length l.tags) (view (length l.tags) (labels_of l.tags l.paths) means.Log) (log_r n (generation_at p n)))) where
       looked : x ≡ found (find_log g.blocks m.labels n)
       unfolding find_log image_of
       looked = f ∙ ap₂ (λ (j : ℕ) (y : Plan). found (find j (view j (labels_of l.tags l.paths) means.Log) (log_r n (generation_at y n)))) (sizes g l r.fit).tags same
 
-      pub not_nothing : x ≡ label.Nothing → ⊥
+      pub not_nothing : x ≡ None → ⊥
       unfolding is_some
       not_nothing z = subst (λ (o : Option ℕ). T (is_some o)) (nothing_none _ looked z) stands
 
-      module _ {b : Block} {size : ℕ} (a : x ≡ label.At b) (z : size ≡ block_size g) where
+      module _ {b : Block} {size : ℕ} (a : x ≡ Some b) (z : size ≡ block_size g) where
         below : b.0 < g.blocks
         unfolding find_log find
         below = at_below _ _ looked a

@@ -7,6 +7,8 @@ use native.Mathlib.Nat.{mul-le-mul}
 use native.Mathlib.Omega.{arith}
 use lib.ListN.{length, take, drop}
 use borrow.Author.Tests.{eq-eqb, ne_eqb}
+use Rattle.std.specs.Prelude as std
+use Rattle.std.specs.Prelude.{Some, None}
 use Rattle.base.specs.Choice.{on_some}
 use Rattle.base.proofs.Choices.{eq_yes, eq_no}
 use Rattle.base.proofs.Ways.{yes<, no<}
@@ -24,14 +26,10 @@ use Rattle.meaning.specs.Labels.{find, generation_at, log_plan, view}
 use Rattle.meaning.specs.Log.{embedded_limit, log_of, replayed}
 use Rattle.meaning.specs.Message.{Page, parse}
 use Rattle.label.specs.Search.{found}
-use Rattle.label.specs.declared.Found.{Found}
-use Rattle.label.specs.declared.Found.TheVariants.{At, Nothing}
 use Rattle.label.proofs.Answered.{at_below, at_some, nothing_none}
 use Rattle.message.specs.Page.{Ranged, page as the_page}
 use Rattle.flash_log.specs.declared.Cursor.{Cursor}
 use Rattle.flash_log.specs.declared.Opening.{Opening}
-use Rattle.flash_log.specs.declared.Start.{Start}
-use Rattle.flash_log.specs.declared.Start.TheVariants as starts
 use Rattle.flash_log.specs.declared.Turn.{Turn}
 use Rattle.flash_log.specs.declared.Turn.TheVariants.{Refused, On, Told}
 use Rattle.flash_log.specs.Turn.{begun, block_at, in_page, last_at, next_page, on_block, onto, opened, page_at, said, spoken, turn_of}
@@ -106,13 +104,13 @@ module _ (g : Geometry) (l : Lent) (p : Plan) (r : Ready g l p) where
   pub start_low : p.start.0 < 4096
   start_low = subst (λ (q : Plan). q.start.0 < 4096) (sym r.plan) (start_below (length l.tags) labels)
 
-  module _ {x : Found} (k n : ℕ)
+  module _ {x : std.Option Block} (k n : ℕ)
       (e : x ≡ found (find (length l.tags) (view (length l.tags) labels means.Log) (log_r n (generation_at p n)))) where
-    pub nothing_is : x ≡ Nothing → starts.Nowhere ≡ on_block g l p k n
+    pub nothing_is : x ≡ None → None ≡ on_block g l p k n
     unfolding on_block on_some
-    nothing_is h = sym (ap (λ (o : Option ℕ). on_some o starts.Nowhere (λ i. starts.At (record { k = k; number = number n; begin = begins g i; page = 0; at = 0; gap = false }))) (nothing_none _ e h))
+    nothing_is h = sym (ap (λ (o : Option ℕ). on_some o None (λ i. Some (record { k = k; number = number n; begin = begins g i; page = 0; at = 0; gap = false }))) (nothing_none _ e h))
 
-    module _ {b : Block} {size : ℕ} (h : x ≡ At b) (z : size ≡ block_size g) where
+    module _ {b : Block} {size : ℕ} (h : x ≡ Some b) (z : size ≡ block_size g) where
       pub begin_low : b.0 * size ≤ 67108864
       unfolding find
       begin_low =
@@ -122,14 +120,14 @@ module _ (g : Geometry) (l : Lent) (p : Plan) (r : Ready g l p) where
           let q : b.0 * size ≤ 1024 * 65536 = mul-le-mul i' z' in
           omega arith
 
-      pub at_is : starts.At (record { k = k; number = number n; begin = b.0 * size; page = 0; at = 0; gap = false }) ≡ on_block g l p k n
+      pub at_is : Some (record { k = k; number = number n; begin = b.0 * size; page = 0; at = 0; gap = false }) ≡ on_block g l p k n
       unfolding on_block on_some begins
       at_is =
-          ap {B = Start} (λ (y : ℕ). starts.At (record { k = k; number = number n; begin = b.0 * y; page = 0; at = 0; gap = false })) z
-          ∙ sym (ap (λ (o : Option ℕ). on_some o starts.Nowhere (λ i. starts.At (record { k = k; number = number n; begin = begins g i; page = 0; at = 0; gap = false }))) (at_some _ e h))
+          ap {B = std.Option Cursor} (λ (y : ℕ). Some (record { k = k; number = number n; begin = b.0 * y; page = 0; at = 0; gap = false })) z
+          ∙ sym (ap (λ (o : Option ℕ). on_some o None (λ i. Some (record { k = k; number = number n; begin = begins g i; page = 0; at = 0; gap = false }))) (at_some _ e h))
 
-  pub first_is : {x : Start} → x ≡ block_at g l p 0 → (x ≡ block_at g l p 0) × Says g l p (whole p) (log_of g (replayed g (image_of g l))) (onto x)
-  first_is e = (e, subst (λ (x : Start). Says g l p (whole p) (log_of g (replayed g (image_of g l))) (onto x)) (sym e) (first_says g l p r))
+  pub first_is : {x : std.Option Cursor} → x ≡ block_at g l p 0 → (x ≡ block_at g l p 0) × Says g l p (whole p) (log_of g (replayed g (image_of g l))) (onto x)
+  first_is e = (e, subst (λ (x : std.Option Cursor). Says g l p (whole p) (log_of g (replayed g (image_of g l))) (onto x)) (sym e) (first_says g l p r))
 
   -- ---- turns
 
@@ -137,7 +135,7 @@ module _ (g : Geometry) (l : Lent) (p : Plan) (r : Ready g l p) where
     answer : {t : Turn} → t ≡ turn_of g l p c → (t ≡ turn_of g l p c) × Says g l p (left g p c) (ahead g l c) t
     answer e = (e, subst (Says g l p (left g p c) (ahead g l c)) (sym e) (next_says g l p r c q))
 
-    pub over_is : {x y : Start} → c.page ≡ g.pages → x ≡ block_at g l p (c.k + 1) → x ≡ y
+    pub over_is : {x y : std.Option Cursor} → c.page ≡ g.pages → x ≡ block_at g l p (c.k + 1) → x ≡ y
         → (onto y ≡ turn_of g l p c) × Says g l p (left g p c) (ahead g l c) (onto y)
     unfolding turn_of
     over_is h e f = answer (ap onto (sym f ∙ e) ∙ sym (eq_yes c.page g.pages _ _ h))

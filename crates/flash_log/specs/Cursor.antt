@@ -1,4 +1,6 @@
 -- What is left of the log at a cursor, and what a turn says of it.
+use Rattle.label.specs.declared.Flash.{Flash}
+use Rattle.label.specs.Lent.{lent_of}
 use Rattle.std.specs.Prelude.{ℕ, ◌+◌, ◌-◌, ◌*◌, ◌^◌, ◌≤◌, ◌<◌, ◌≡◌, true, false, List, [], ◌∷◌, length, drop}
 use Rattle.std.proofs.Math.Option.{some}
 use Rattle.base.specs.Choice.{if_less, if_eq}
@@ -42,6 +44,9 @@ whole p = (p.swept + p.active + 1) * 262144
 pub record Ready (g : Geometry) (l : Lent) (p : Plan) : Type 0 where
   pub fit : fits g l ≡ true
   pub plan : p ≡ log_plan (length l.tags) (labels_of l.tags l.paths)
+
+abbrev pub Planned : Flash → Plan → Type 0
+Planned m p = Ready m.geometry (lent_of m) p
 
 -- the number of block k
 unfoldable pub number_at : Plan → ℕ → ℕ

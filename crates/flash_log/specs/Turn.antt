@@ -1,5 +1,5 @@
 -- What one turn answers: the next block, what a page that is begun is, or the message at a position.
-use Rattle.std.specs.Prelude.{ℕ, ◌+◌, ◌-◌, ◌*◌, Bool, true, false, List, length, get_or, take, drop, eqb}
+use Rattle.std.specs.Prelude.{ℕ, ◌+◌, ◌-◌, ◌*◌, Bool, true, false, List, length, get_or, take, drop, eqb, Option, Some, None}
 use Rattle.base.specs.Choice.{if_true, if_less, if_eq, on_some}
 use Rattle.meaning.specs.declared.Geometry.{Geometry}
 use Rattle.meaning.specs.declared.Plan.{Plan}
@@ -15,8 +15,6 @@ use Rattle.meaning.specs.Log.{embedded_limit}
 use Rattle.flash_log.specs.declared.Cursor.{Cursor}
 use Rattle.flash_log.specs.declared.Opening.{Opening}
 use Rattle.flash_log.specs.declared.Opening.TheVariants as opening
-use Rattle.flash_log.specs.declared.Start.{Start}
-use Rattle.flash_log.specs.declared.Start.TheVariants.{At, Nowhere}
 use Rattle.flash_log.specs.declared.Turn.{Turn}
 use Rattle.flash_log.specs.declared.Turn.TheVariants.{End, Refused, On, Told}
 
@@ -37,20 +35,20 @@ last_at p k = if_less k p.swept (eqb (k + 1) p.swept) (if_less (k - p.swept) p.a
 -- ---- blocks
 
 -- the first page of block k, whose number is n
-unfoldable pub on_block : Geometry → Lent → Plan → ℕ → ℕ → Start
-on_block g l p k n = on_some (find (length l.tags) (view (length l.tags) (labels_of l.tags l.paths) means.Log) (log_r n (generation_at p n))) Nowhere
-    (λ i. At (record { k = k; number = number n; begin = begins g i; page = 0; at = 0; gap = false }))
+unfoldable pub on_block : Geometry → Lent → Plan → ℕ → ℕ → Option Cursor
+on_block g l p k n = on_some (find (length l.tags) (view (length l.tags) (labels_of l.tags l.paths) means.Log) (log_r n (generation_at p n))) None
+    (λ i. Some (record { k = k; number = number n; begin = begins g i; page = 0; at = 0; gap = false }))
 
 -- block k, counted over the swept and then the active log, if there is one
-unfoldable pub block_at : Geometry → Lent → Plan → ℕ → Start
+unfoldable pub block_at : Geometry → Lent → Plan → ℕ → Option Cursor
 block_at g l p k =
     if_less k p.swept (on_block g l p k k)
-    (if_less (k - p.swept) p.active (on_block g l p k (p.start.0 + (k - p.swept))) Nowhere)
+    (if_less (k - p.swept) p.active (on_block g l p k (p.start.0 + (k - p.swept))) None)
 
 -- the turn to a block, or the end
-abbrev pub onto : Start → Turn
-onto (At c) = On c
-onto Nowhere = End
+abbrev pub onto : Option Cursor → Turn
+onto (Some c) = On c
+onto None = End
 
 -- ---- pages
 

@@ -7,17 +7,16 @@ use native.Mathlib.Omega.{arith}
 use lib.ListN.{length, take, get_or}
 use Rattle.meaning.specs.declared.Record.{Record}
 use Rattle.meaning.specs.declared.Refusal.{Refusal}
-use Rattle.meaning.specs.Answer.{Answer, ok, no}
+use Rattle.std.specs.Prelude.{Result, Ok, Err, ⊤}
+use Rattle.meaning.specs.Answer.{Answer, answer_by, ok, no}
+use Rattle.outcome.specs.Outcome.{said_of}
 use Rattle.meaning.specs.Mount as meaning
 use Rattle.meaning.specs.Mount.{mount_of, mount_into}
 use Rattle.meaning.specs.Replay.{root}
 use Rattle.meaning.proofs.Shown.{Dump, line, lent, lines}
-use Rattle.replay.specs.declared.Said.{Said}
-use Rattle.replay.specs.declared.Said.TheVariants.{Whole, Refused}
-use Rattle.replay.specs.Replay.{answer_by}
 use Rattle.table.proofs.Filled.{into_table}
 use Rattle.answer.specs.declared.Mounted.{Mounted}
-use Rattle.answer.specs.Mounted.{mounted, said_of, stands_for}
+use Rattle.answer.specs.Mounted.{mounted, stands_for}
 
 pub worked : Dump
 worked = record {
@@ -38,25 +37,25 @@ pub worked_tally : tally (mount_of worked.geometry (lent worked)) ≡ 1 ∷ 2 �
 unfolding lines worked
 worked_tally = refl
 
-whole_tally : (x : Said) (m : meaning.Mounted) → get_or (tally (answer_by x m)) 0 0 ≡ 1 → x ≡ Whole
-whole_tally Whole m e = refl
-whole_tally (Refused r) m e = absurd (omega (arith, e))
+whole_tally : (x : Result ⊤ Refusal) (m : meaning.Mounted) → get_or (tally (answer_by (λ _. m) x)) 0 0 ≡ 1 → x ≡ Ok tt
+whole_tally (Ok x) m e = refl
+whole_tally (Err r) m e = absurd (omega (arith, e))
 
 module _ (before : List Record) (places : length before ≡ 256) (r : Mounted) (after : List Record)
     (a : stands_for r after ≡ mount_into worked.geometry (lent worked) before) where
   tallied : tally (stands_for r after) ≡ 1 ∷ 2 ∷ 2 ∷ 0 ∷ []
   tallied = ap tally (a ∙ into_table worked.geometry (lent worked) before places) ∙ worked_tally
 
-  accepts : said_of r.said ≡ Whole
+  accepts : said_of r.said ≡ Ok tt
   accepts = whole_tally (said_of r.said) (mounted r after) (ap (λ (xs : List ℕ). get_or xs 0 0) tallied)
 
   shows : tally (ok (mounted r after)) ≡ 1 ∷ 2 ∷ 2 ∷ 0 ∷ []
-  shows = ap (λ (x : Said). tally (answer_by x (mounted r after))) (sym accepts) ∙ tallied
+  shows = ap (λ (x : Result ⊤ Refusal). tally (answer_by (λ _. mounted r after) x)) (sym accepts) ∙ tallied
 
   -- one that refuses everything
-  pub refuses_everything : (x : Refusal) → said_of r.said ≡ Refused x → ⊥
+  pub refuses_everything : (x : Refusal) → said_of r.said ≡ Err x → ⊥
   refuses_everything x e =
-      let q : ◌≡◌ {A = ℕ} 1 0 = ap (λ (y : Said). get_or (tally (answer_by y (mounted r after))) 0 0) (sym accepts ∙ e) in
+      let q : ◌≡◌ {A = ℕ} 1 0 = ap (λ (y : Result ⊤ Refusal). get_or (tally (answer_by (λ _. mounted r after) y)) 0 0) (sym accepts ∙ e) in
       omega (arith, q)
 
   -- one that shows a lone root for every image

@@ -9,38 +9,30 @@ use Rattle.base.proofs.Tests.{zero_one}
 use Rattle.meaning.specs.declared.Extent.{Extent}
 use Rattle.meaning.specs.declared.Geometry.{Geometry}
 use Rattle.meaning.specs.declared.Record.{Record}
-use Rattle.meaning.specs.Answer.{Answer, ok, no}
+use Rattle.std.specs.Prelude.{Result, Ok, Err, ⊤}
+use Rattle.meaning.specs.declared.Refusal.{Refusal}
+use Rattle.meaning.specs.Answer.{Answer, answer_by, ok, no}
+use Rattle.outcome.specs.Outcome.{outcome_of, said_of}
 use Rattle.meaning.specs.Flash.{Lent, image_of}
 use Rattle.meaning.specs.Mount as meaning
 use Rattle.meaning.specs.Mount.{mount_into, table_after}
-use Rattle.replay.specs.declared.Said.{Said}
-use Rattle.replay.specs.declared.Said.TheVariants.{Whole, Refused}
-use Rattle.replay.specs.Replay.{answer_by}
 use Rattle.used.specs.Bits.{listed, used_bits}
 use Rattle.answer.specs.declared.Mounted.{Mounted}
-use Rattle.answer.specs.Mounted.{insertion_of, mounted, outcome_of, said_of, stands_for, Sizes, Sized}
+use Rattle.answer.specs.Mounted.{insertion_of, mounted, stands_for, Sizes, Sized}
 
 -- ---- an answer by its parts
 
-abbrev kind : Answer meaning.Mounted → ℕ
-kind (ok a) = 0
-kind (no r) = 1
+abbrev how : Answer meaning.Mounted → Result ⊤ Refusal
+how (ok a) = Ok tt
+how (no r) = Err r
 
-abbrev value : meaning.Mounted → Answer meaning.Mounted → meaning.Mounted
-value d (ok a) = a
-value d (no r) = d
+pub accepted : (x : Result ⊤ Refusal) (m a : meaning.Mounted) → answer_by (λ _. m) x ≡ ok a → (x ≡ Ok tt) × (m ≡ a)
+accepted (Ok x) m a e = (refl, cc)
+accepted (Err r) m a e = absurd (cc)
 
-abbrev how : Answer meaning.Mounted → Said
-how (ok a) = Whole
-how (no r) = Refused r
-
-pub accepted : (x : Said) (m a : meaning.Mounted) → answer_by x m ≡ ok a → (x ≡ Whole) × (m ≡ a)
-accepted Whole m a e = (refl, ap (value m) e)
-accepted (Refused r) m a e = absurd (zero_one (ap kind (sym e)))
-
-said_is : (x : Said) (m : meaning.Mounted) → how (answer_by x m) ≡ x
-said_is Whole m = refl
-said_is (Refused r) m = refl
+said_is : (x : Result ⊤ Refusal) (m : meaning.Mounted) → how (answer_by (λ _. m) x) ≡ x
+said_is (Ok x) m = refl
+said_is (Err r) m = refl
 
 -- ---- two outcomes
 
@@ -62,18 +54,18 @@ module _ (g : Geometry) (l : Lent) (before : List Record) (r r' : Mounted) (afte
   one_said = s.1 ∙ ap outcome_of same_said ∙ sym s'.1
 
   -- records, extents, counts, erase list and insertion point
-  pub one_shown : said_of r.said ≡ Whole → mounted r after ≡ mounted r' after'
+  pub one_shown : said_of r.said ≡ Ok tt → mounted r after ≡ mounted r' after'
   one_shown e =
       (accepted (said_of r.said) (mounted r after) (mounted r' after')
-      (one_answer ∙ ap (λ (x : Said). answer_by x (mounted r' after')) (sym same_said ∙ e))).1
+      (one_answer ∙ ap (λ (x : Result ⊤ Refusal). answer_by (λ _. mounted r' after') x) (sym same_said ∙ e))).1
 
-  pub one_insertion : said_of r.said ≡ Whole → r.insertion ≡ r'.insertion
+  pub one_insertion : said_of r.said ≡ Ok tt → r.insertion ≡ r'.insertion
   one_insertion e = s.2 ∙ ap insertion_of (ap (λ (m : meaning.Mounted). m.insert) (one_shown e)) ∙ sym s'.2
 
-  used_is : (q : Mounted) → Sized g l q → said_of q.said ≡ Whole → q.used ≡ listed 1024 (used_bits g (image_of g l).labels (take q.runs q.extents))
-  used_is q z e = (subst (λ (x : Said). Sizes x g l q) e z.0).3
+  used_is : (q : Mounted) → Sized g l q → said_of q.said ≡ Ok tt → q.used ≡ listed 1024 (used_bits g (image_of g l).labels (take q.runs q.extents))
+  used_is q z e = (subst (λ (x : Result ⊤ Refusal). Sizes x g l q) e z.0).3
 
-  pub one_used : said_of r.said ≡ Whole → r.used ≡ r'.used
+  pub one_used : said_of r.said ≡ Ok tt → r.used ≡ r'.used
   one_used e =
       used_is r s e ∙ ap (λ (xs : List Extent). listed 1024 (used_bits g (image_of g l).labels xs)) (ap (λ (m : meaning.Mounted). m.tree.extents) (one_shown
       e))

@@ -2,25 +2,27 @@
 // in C, its place and its length. include/chimecorona.h declares them.
 #![tactic(auto)]
 
-ghost use Rattle.std.specs.Prelude.{◌≡◌, length};
+ghost use Rattle.std.specs.Prelude.{◌≡◌, length, map, take};
+ghost use Rattle.meaning.specs.Answer.{answer_by};
 ghost use Rattle.meaning.specs.Flash.{labels_of};
 ghost use Rattle.meaning.specs.Mount.{mount_into, table_after};
 ghost use Rattle.meaning.specs.Services.{buffer_after, do_step, leaves, read as the_read, reclaim as the_reclaim, settle as the_settle};
 ghost use Rattle.plan.specs.Select.{lent};
+ghost use Rattle.outcome.specs.Outcome.{outcome_of, said_of};
 ghost use Rattle.step.specs.Done.{answered, stepped};
-ghost use Rattle.answer.specs.Mounted.{said_of, stands_for, Sized};
+ghost use Rattle.answer.specs.Mounted.{stands_for, Sized};
+ghost use Rattle.reclaim.specs.Reclaimed.{steps_in};
 ghost use Rattle.action.specs.Action.{step_of};
-ghost use Rattle.replay.specs.Replay.{answer_by};
 ghost use Rattle.direct.specs.Begins.{begins_of, begun, places_after};
 ghost use Rattle.direct.specs.Direct.{answered as the_answered, buffer_with};
-ghost use Rattle.host.specs.Host.{count_of, doing, reading, reclaiming, settling, Canonical};
+ghost use Rattle.host.specs.Host.{count_of, reading, reclaiming, settling, Canonical};
 
 use action::Action;
 use answer::Mounted;
-use file::Outcome as Read;
-use meaning::{Geometry, Record};
+use label::Flash;
+use meaning::{Geometry, Record, Refusal, Step};
 use outcome::Outcome;
-use step::Stepped;
+use reclaim::Steps;
 use used::Erase;
 
 /// What a settle answers: the blocks that were erased.
@@ -60,10 +62,14 @@ pub extern "C" fn chimecorona_mount(
 ) -> Mounted
     ensures { (table.new ≡ table_after g (lent tags.now paths.now contents.now) table.old) × (stands_for result table.new ≡ mount_into g (lent tags.now paths.now contents.now) table.old) × Sized g (lent tags.now paths.now contents.now) result }
 {
-    let c = answer::show_all(g, tags, paths, contents, table.len());
-    let all = c.all;
-    let n = c.n;
-    table::fill(table, all, n);
+    let flash = Flash {
+        geometry: g,
+        tags,
+        paths,
+        contents,
+    };
+    let c = answer::show_all(&flash, table.len());
+    table::fill(table, &c.all, c.n);
     c.answer
 }
 
@@ -78,15 +84,27 @@ pub extern "C" fn chimecorona_settle(
     ensures result_value { (settling result ≡ the_settle g (lent tags.old paths.old contents.old)) × Canonical result.said }
     ensures contents_after { lent tags.new paths.new contents.new ≡ leaves g (lent tags.old paths.old contents.old) (the_settle g (lent tags.old paths.old contents.old)) }
 {
-    let r = settle::settle(g, tags, paths, contents);
-    let how = r.said;
-    let said = answer::ended(how);
-    let blocks = r.blocks;
-    let erase = Erase {
-        blocks,
-        count: r.count,
-    };
-    Settled { said, erase }
+    match settle::settle(g, tags, paths, contents) {
+        Ok(erase) => Settled {
+            said: Outcome::from(Ok(())),
+            erase,
+        },
+        Err(x) => Settled {
+            said: Outcome::from(x),
+            erase: Erase::none(),
+        },
+    }
+}
+
+fn listed(said: Outcome, list: Steps) -> Reclaimed
+    ensures { (result.said ≡ said) × (result.count ≡ list.count) × (map step_of (take result.count result.steps) ≡ steps_in list) }
+{
+    let steps = action::actions_of(list);
+    Reclaimed {
+        said,
+        count: list.count,
+        steps,
+    }
 }
 
 /// Rewrites the data block of that number without its dead pages.
@@ -101,24 +119,9 @@ pub extern "C" fn chimecorona_reclaim(
     ensures result_value { (reclaiming result ≡ the_reclaim g (lent tags.old paths.old contents.old) number) × Canonical result.said }
     ensures contents_after { lent tags.new paths.new contents.new ≡ leaves g (lent tags.old paths.old contents.old) (the_reclaim g (lent tags.old paths.old contents.old) number) }
 {
-    let r = reclaim::reclaim(g, tags, paths, contents, number);
-    let how = r.said;
-    let said = answer::ended(how);
-    let list = r.list;
-    let steps = action::actions_of(list);
-    Reclaimed {
-        said,
-        count: list.count,
-        steps,
-    }
-}
-
-fn done(s: Stepped) -> Outcome
-    ensures { result ≡ doing s }
-{
-    match s {
-        Stepped::Done => outcome::whole(),
-        Stepped::Refused(x) => outcome::refused(x),
+    match reclaim::reclaim(g, tags, paths, contents, number) {
+        Ok(list) => listed(Outcome::from(Ok(())), list),
+        Err(x) => listed(Outcome::from(x), Steps::empty()),
     }
 }
 
@@ -131,25 +134,27 @@ pub extern "C" fn chimecorona_step(
     contents: &mut [u8],
     action: Action,
 ) -> Outcome
-    ensures value { result ≡ doing (answered (do_step g (lent tags.old paths.old contents.old) (step_of action))) }
+    ensures value { result ≡ outcome_of (answered (do_step g (lent tags.old paths.old contents.old) (step_of action))) }
     ensures contents_after { lent tags.new paths.new contents.new ≡ stepped g (lent tags.old paths.old contents.old) (step_of action) }
 {
-    let s = action::step_of(action);
-    done(step::do_step(g, tags, paths, contents, s))
+    let s = Step::from(action);
+    Outcome::from(step::do_step(g, tags, paths, contents, s))
 }
 
-fn counted(r: Read) -> Count
-    ensures { result ≡ count_of r }
-{
-    match r {
-        Read::Read(n) => Count {
-            said: outcome::whole(),
-            count: n,
-        },
-        Read::Refused(x) => Count {
-            said: outcome::refused(x),
-            count: 0,
-        },
+impl From<Result<usize, Refusal>> for Count {
+    ghost from_gives = { λ r c. c ≡ count_of r };
+
+    fn from(r: Result<usize, Refusal>) -> Count {
+        match r {
+            Ok(n) => Count {
+                said: Outcome::from(Ok(())),
+                count: n,
+            },
+            Err(x) => Count {
+                said: Outcome::from(x),
+                count: 0,
+            },
+        }
     }
 }
 
@@ -167,7 +172,13 @@ pub extern "C" fn chimecorona_read(
     ensures result_value { (reading result ≡ the_read g (lent tags.now paths.now contents.now) path x (length buffer.old)) × Canonical result.said }
     ensures buffer_after { buffer.new ≡ buffer_after g (lent tags.now paths.now contents.now) path x buffer.old }
 {
-    counted(file::read(g, tags, paths, contents, path, x, buffer))
+    let flash = Flash {
+        geometry: g,
+        tags,
+        paths,
+        contents,
+    };
+    Count::from(file::read(&flash, path, x, buffer))
 }
 
 /// Where the bytes of each extent begin in the contents: asked once after a mount, for the reads below.
@@ -180,11 +191,16 @@ pub extern "C" fn chimecorona_begins(
     extents: &[[u32; 4]],
     places: &mut [u32],
 ) -> Outcome
-    ensures extents_value { (answer_by (said_of result) (begins_of g (labels_of tags.now paths.now) extents.now) ≡ begun g (lent tags.now paths.now contents.now) extents.now (length places.old)) × Canonical result }
+    ensures extents_value { (answer_by (λ x. begins_of g (labels_of tags.now paths.now) extents.now) (said_of result) ≡ begun g (lent tags.now paths.now contents.now) extents.now (length places.old)) × Canonical result }
     ensures places_after { places.new ≡ places_after g (lent tags.now paths.now contents.now) extents.now places.old }
 {
-    let said = direct::begins(g, tags, paths, contents, extents, places);
-    answer::ended(said)
+    let flash = Flash {
+        geometry: g,
+        tags,
+        paths,
+        contents,
+    };
+    Outcome::from(direct::begins(&flash, extents, places))
 }
 
 /// Copies bytes of the file of a record that a mount has shown, with no mount: by its extents, and by where they begin.
@@ -200,5 +216,5 @@ pub extern "C" fn chimecorona_read_mounted(
     ensures result_value { (reading result ≡ the_answered file (length extents.now) (length begins.now) x (length buffer.old)) × Canonical result.said }
     ensures buffer_after { buffer.new ≡ buffer_with contents.now file extents.now begins.now x buffer.old }
 {
-    counted(direct::read(contents, file, extents, begins, x, buffer))
+    Count::from(direct::read(contents, file, extents, begins, x, buffer))
 }

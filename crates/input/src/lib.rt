@@ -9,6 +9,8 @@ use std::io::{self, Read};
 pub fn read_full(input: &mut impl Read, slice: &mut [u8]) -> io::Result<usize>
     ensures { IfOk result (λ n. n ≤ length slice.new) }
 {
+    // A `while`: the input says how many bytes a turn gives.
+    // No counted loop: a read says how many bytes it got.
     let mut n: usize = 0;
     while n < slice.len() {
         let got = input.read(&mut slice[n..])?;

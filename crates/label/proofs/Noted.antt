@@ -1,5 +1,5 @@
 -- Which blocks are older copies, all at once: the newer copy's path is among those that have a mark.
-use Prim.Native.Nat.{ℕ, ◌+◌, ◌%◌, ◌≤◌, ◌<◌}
+use Prim.Native.Nat.{ℕ, ◌+◌, ◌%◌, ◌≤◌, ◌<◌, min}
 use native.Mathlib.Omega.{arith}
 use mathlib.Core.Bool.{Bool, true, false, not, ◌&&◌}
 use mathlib.Core.List.{List}
@@ -63,13 +63,11 @@ module _ (n : ℕ) (m : Labels) where
         one_on : (i : ℕ) → i ≢ k → ltb i k ≡ ltb i (k + 1)
         one_on i q = ⊎_elim (λ (h : i < k). lt-ltb i k h ∙ sym (lt-ltb i (k + 1) (omega arith))) (λ (h : k ≤ i). le-ltb i k h ∙ sym (le-ltb i (k + 1) (omega arith))) (lt_or i k)
 
-    pub olders_short : k ≤ n → n ≤ k → Olders n m n flags
-    olders_short a b = let e : k ≡ n = omega arith in rw e at o
-
-    pub olders_full : k ≤ n → 1024 ≤ k → Olders n m n flags
-    olders_full a b = record {
+    -- as many as there are, up to 1024
+    pub olders_all : min n 1024 ≤ k → k ≤ n → Olders n m n flags
+    olders_all a b = record {
       long = o.long;
-      exact = λ i h. o.exact i h ∙ ap (λ (c : Bool). c && older n m i) (lt-ltb i k (omega arith) ∙ sym (lt-ltb i n (omega arith)));
+      exact = λ i h. o.exact i h ∙ ap (λ (c : Bool). c && older n m i) (⊎_elim (λ (l : i < k). lt-ltb i k l ∙ sym (lt-ltb i n (omega arith))) (λ (l : k ≤ i). le-ltb i k l ∙ sym (le-ltb i n (omega arith))) (lt_or i k));
     }
 
   -- for callers: the flag of a block

@@ -12,6 +12,9 @@ use Rattle.base.specs.Choice.{test, provided}
 use Rattle.base.specs.Scan.{any}
 use Rattle.base.proofs.Tests.{T-ext, eqb_of, and_l, and_r, and_i}
 use Rattle.base.proofs.Scans.{any_cong}
+use denote.Enum.Bare.{sameb}
+use Rattle.meaning.specs.contracts.Tag.{the_type}
+use Rattle.label.proofs.Said.{same_tags}
 use Rattle.meaning.specs.declared.Tag.{Tag}
 use Rattle.meaning.specs.declared.Tag.TheVariants.{Free}
 use Rattle.meaning.specs.Flash.{Labels, copy_of, follows, labels_of, path_of, r_of, same_tag, successor, tag_of}
@@ -56,18 +59,18 @@ pub older_label : (n : ℕ) (m : Labels) (i : ℕ) → older n m i ≡ (not (sam
 unfolding older
 older_label n m i = any_cong n _ _ (λ j l. newer_label m j i) ∙ any_and n (not (same_tag (m.tag i) Free)) (labelled m (m.tag i) (newer_path (m.path i)))
 
-module _ (tags paths : List ℕ) (i : ℕ) {v : Bool} {t : Tag} {b : ℕ} (e : v ≡ same_tag t Free) (f : t ≡ tag_of b) (h : b ≡ get_or tags i 0) where
+module _ (tags paths : List ℕ) (i : ℕ) {v : Bool} {t : Tag} {b : ℕ} (e : v ≡ not (sameb the_type t Free)) (f : t ≡ tag_of b) (h : b ≡ get_or tags i 0) where
   tag : t ≡ (labels_of tags paths).tag i
   unfolding labels_of
   tag = f ∙ ap tag_of h
 
-  free : v ≡ same_tag ((labels_of tags paths).tag i) Free
-  free = e ∙ ap (λ (x : Tag). same_tag x Free) tag
+  free : v ≡ not (same_tag ((labels_of tags paths).tag i) Free)
+  free = e ∙ ap not (same_tags t Free ∙ ap (λ (x : Tag). same_tag x Free) tag)
 
-  pub older_free : v ≡ true → false ≡ older (length tags) (labels_of tags paths) i
-  older_free g = sym (older_label (length tags) (labels_of tags paths) i ∙ rw (sym free ∙ g))
+  pub older_free : v ≡ false → v ≡ older (length tags) (labels_of tags paths) i
+  older_free g = g ∙ sym (older_label (length tags) (labels_of tags paths) i ∙ rw (sym free ∙ g))
 
-  pub older_is : {w : Bool} {p q : ℕ} → v ≡ false → w ≡ any (length tags) (labelled (labels_of tags paths) t p) → p ≡ newer_path q → q ≡ get_or paths i 0
+  pub older_is : {w : Bool} {p q : ℕ} → v ≡ true → w ≡ any (length tags) (labelled (labels_of tags paths) t p) → p ≡ newer_path q → q ≡ get_or paths i 0
       → w ≡ older (length tags) (labels_of tags paths) i
   unfolding labels_of
   older_is {w} {p} {q} g k a c =

@@ -1,5 +1,5 @@
 -- A search that looks at the paths alone for the next place of r: the places that it passes over do not stand for r.
-use Prim.Native.Nat.{ℕ, ◌+◌, ◌/◌, ◌≤◌, ◌<◌}
+use Prim.Native.Nat.{ℕ, ◌+◌, ◌/◌, ◌≤◌, ◌<◌, max}
 use native.Mathlib.Omega.{arith}
 use mathlib.Core.Bool.{Bool, false}
 use mathlib.Core.List.{List}
@@ -37,6 +37,14 @@ module _ (paths : List ℕ) (r from : ℕ) where
 
     pub next_past : length paths ≤ i → Next paths r from i
     next_past e = record { above = h.above; here = λ l. absurd (omega arith); none = h.none }
+
+    -- the scan is at the end, or began past it
+    pub next_end : {x : ℕ} → length paths ≤ i → x ≡ max from (length paths) → Next paths r from x
+    next_end {x} l b = record {
+      above = omega (arith, h.above);
+      here = λ (q : x < length paths). absurd (omega arith);
+      none = λ k a c. h.none k a (omega arith);
+    }
 
 pub ruleset nexts = (other_start, other_more, next_here, next_past)
 

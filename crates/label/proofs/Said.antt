@@ -2,56 +2,61 @@
 use Prim.Native.Nat.{ℕ, ◌+◌, ◌*◌, ◌/◌, ◌%◌, ◌≤◌, ◌<◌, ◌^◌, min}
 use native.Mathlib.Nat.{div-zero, mod-zero, mul-le-mul}
 use native.Mathlib.Omega.{arith}
-use mathlib.Core.Bool.{Bool, true, false}
+use mathlib.Core.Bool.{Bool, false}
 use mathlib.Core.List.{List}
-use mathlib.Core.Path.{◌≡◌, sym, ap, ap₂, ◌∙◌}
+use denote.Enum.Bare.{sameb}
+use mathlib.Core.Path.{◌≡◌, refl, sym, ap, ◌∙◌}
 use mathlib.Core.Logic.{◌≢◌}
 use lib.ListN.{length, get_or, get_or-eq_default}
-use lib.Dec.{eqb, ltb}
-use borrow.Author.Tests.{eq-eqb, ne_eqb, le-leb, lt-leb}
+use lib.Dec.{ltb, leb}
+use borrow.Author.Tests.{le-leb, lt-leb}
 use Rattle.base.specs.Choice.{if_true}
 use Rattle.meaning.specs.declared.Tag.{Tag}
+use Rattle.meaning.specs.declared.Tag.TheVariants.{Free, Boot, Log, Data, Unknown}
+use Rattle.meaning.specs.contracts.Tag.{the_type}
 use Rattle.meaning.specs.declared.Geometry.{Geometry}
-use Rattle.meaning.specs.Flash.{bad_path, block_number, block_size, byte_of, follows, labels_of, log_number, r_of, same_tag, successor, tag_of}
-
--- ---- generations
-
-pub follow_yes : (a b : ℕ) → a ≡ (b + 1) % 4 → true ≡ follows a b
-unfolding follows successor
-follow_yes a b e = sym (eq-eqb a ((b + 1) % 4) e)
-
-pub follow_no : (a b : ℕ) → a ≢ (b + 1) % 4 → false ≡ follows a b
-unfolding follows successor
-follow_no a b e = sym (ne_eqb a ((b + 1) % 4) e)
+use Rattle.meaning.specs.Flash.{bad_path, block_number, block_size, byte_of, labels_of, log_number, r_of, same_tag, tag_of}
 
 -- ---- tags and paths
 
-pub same_is : {x y : ℕ} (s t : Tag) → x ≡ byte_of s → y ≡ byte_of t → eqb x y ≡ same_tag s t
-unfolding same_tag
-same_is s t e f = ap₂ eqb e f
+-- tags are equal where the bytes written for them are
+pub same_tags : (s t : Tag) → sameb the_type s t ≡ same_tag s t
+unfolding same_tag byte_of
+same_tags Free = elim [ Free ↦ refl | Boot ↦ refl | Log ↦ refl | Data ↦ refl | Unknown ↦ refl ]
+same_tags Boot = elim [ Free ↦ refl | Boot ↦ refl | Log ↦ refl | Data ↦ refl | Unknown ↦ refl ]
+same_tags Log = elim [ Free ↦ refl | Boot ↦ refl | Log ↦ refl | Data ↦ refl | Unknown ↦ refl ]
+same_tags Data = elim [ Free ↦ refl | Boot ↦ refl | Log ↦ refl | Data ↦ refl | Unknown ↦ refl ]
+same_tags Unknown = elim [ Free ↦ refl | Boot ↦ refl | Log ↦ refl | Data ↦ refl | Unknown ↦ refl ]
 
--- b is the code's byte for the tag t
-module _ {b : ℕ} {x : Tag} (t : Tag) (p : ℕ) (e : b ≡ byte_of x) (f : x ≡ t) where
-  byte : byte_of t ≡ b
-  byte = sym (e ∙ ap byte_of f)
-
-  pub path_free : b ≡ 255 → false ≡ bad_path t p
+module _ (t : Tag) (p : ℕ) where
+  pub path_free : Free ≡ t → false ≡ bad_path t p
   unfolding bad_path same_tag byte_of
-  path_free h = rw (eq-eqb (byte_of t) 255 (byte ∙ h))
+  path_free e = rw (← e)
 
-  module _ (h : b ≢ 255) where
-    pub path_large : 2 ^ 34 ≤ p → true ≡ bad_path t p
+  module _ (e : Log ≡ t) where
+    pub path_log_large : 2 ^ 34 ≤ p → leb (2 ^ 34) p ≡ bad_path t p
     unfolding bad_path same_tag byte_of
-    path_large l = rw (ne_eqb (byte_of t) 255 (λ q. h (sym byte ∙ q)), le-leb (2 ^ 34) p l)
+    path_log_large l = rw (← e, le-leb (2 ^ 34) p l)
 
-    module _ (l : p < 2 ^ 34) where
-      pub path_log : b ≡ 6 → ltb 4095 (p / 4 / 4) ≡ bad_path t p
-      unfolding bad_path same_tag byte_of block_number if_true log_number r_of
-      path_log k = rw (ne_eqb (byte_of t) 255 (λ q. h (sym byte ∙ q)), lt-leb (2 ^ 34) p l, eq-eqb (byte_of t) 6 (byte ∙ k))
+    pub path_log : p < 2 ^ 34 → ltb 4095 (p / 4 / 4) ≡ bad_path t p
+    unfolding bad_path same_tag byte_of block_number if_true log_number r_of
+    path_log l = rw (← e, lt-leb (2 ^ 34) p l)
 
-      pub path_other : b ≢ 6 → ltb 4095 (p / 4) ≡ bad_path t p
-      unfolding bad_path same_tag byte_of block_number if_true r_of
-      path_other k = rw (ne_eqb (byte_of t) 255 (λ q. h (sym byte ∙ q)), lt-leb (2 ^ 34) p l, ne_eqb (byte_of t) 6 (λ q. k (sym byte ∙ q)))
+pub path_large : (t : Tag) (p : ℕ) → t ≢ Free → 2 ^ 34 ≤ p → leb (2 ^ 34) p ≡ bad_path t p
+unfolding bad_path same_tag byte_of
+path_large Free p f l = absurd (f refl)
+path_large Boot p f l = rw (le-leb (2 ^ 34) p l)
+path_large Log p f l = rw (le-leb (2 ^ 34) p l)
+path_large Data p f l = rw (le-leb (2 ^ 34) p l)
+path_large Unknown p f l = rw (le-leb (2 ^ 34) p l)
+
+pub path_other : (t : Tag) (p : ℕ) → t ≢ Free → t ≢ Log → p < 2 ^ 34 → ltb 4095 (p / 4) ≡ bad_path t p
+unfolding bad_path same_tag byte_of block_number if_true r_of
+path_other Free p f g l = absurd (f refl)
+path_other Boot p f g l = rw (lt-leb (2 ^ 34) p l)
+path_other Log p f g l = absurd (g refl)
+path_other Data p f g l = rw (lt-leb (2 ^ 34) p l)
+path_other Unknown p f g l = rw (lt-leb (2 ^ 34) p l)
 
 -- ---- addresses
 
@@ -93,8 +98,8 @@ module _ (tags paths : List ℕ) (i : ℕ) where
   unfolding labels_of
   path_is f = f
 
-pub as_tag : {v : Bool} {x : Tag} (s t : Tag) → v ≡ same_tag x t → x ≡ s → v ≡ same_tag s t
-as_tag s t e f = e ∙ ap (λ (y : Tag). same_tag y t) f
+pub as_tag : {v : Bool} {x : Tag} (s t : Tag) → v ≡ sameb the_type x t → x ≡ s → v ≡ same_tag s t
+as_tag s t e f = e ∙ ap (λ (y : Tag). sameb the_type y t) f ∙ same_tags s t
 
 pub r_is : {p : ℕ} (q : ℕ) → p ≡ q → p / 4 ≡ r_of q
 unfolding r_of

@@ -5,6 +5,7 @@ use native.Mathlib.Nat.{lt_of_lt_of_le}
 use native.Mathlib.Omega.{arith}
 use mathlib.Core.Bool.{Bool, true, false}
 use mathlib.Core.Option.{Option, none, some}
+use Rattle.std.specs.Prelude.{Some, None}
 use mathlib.Core.Path.{◌≡◌, sym, ap, ◌∙◌}
 use lib.Dec.{T}
 use borrow.Author.Count.{below_none, below_more}
@@ -15,7 +16,6 @@ use Rattle.base.proofs.Tests.{T-yes, is_true, is_false, not_both}
 use Rattle.base.proofs.Scans.{Found, any_intro, any_elim, Stands, first_stands, first_none_intro}
 use Rattle.meaning.specs.Answer.{block}
 use Rattle.label.specs.Search.{found}
-use Rattle.label.specs.declared.Found.TheVariants.{At, Nothing}
 
 pub record Clear (p : ℕ → Bool) (i : ℕ) : Type 0 where
   pub none : (k : ℕ) → k < i → p k ≡ false
@@ -49,7 +49,7 @@ module _ (p : ℕ → Bool) (n : ℕ) where
                 omega arith
 
     -- x is the place that the code answers with
-    pub place_hit : {x : ℕ} → Clear p i → i < n → v ≡ p i → v ≡ true → x ≡ i → At (block x) ≡ found (first n p)
+    pub place_hit : {x : ℕ} → Clear p i → i < n → v ≡ p i → v ≡ true → x ≡ i → Some (block x) ≡ found (first n p)
     unfolding found
     place_hit h l e f q = rw (first_hit h l e f, q)
 
@@ -64,7 +64,7 @@ module _ (p : ℕ → Bool) (n : ℕ) where
   pub first_clear : (i : ℕ) → Clear p i → n ≤ i → first n p ≡ none
   first_clear i h l = first_none_intro n p (λ k q t. not_both _ (h.none k (lt_of_lt_of_le q l)) t)
 
-  pub place_clear : (i : ℕ) → Clear p i → n ≤ i → Nothing ≡ found (first n p)
+  pub place_clear : (i : ℕ) → Clear p i → n ≤ i → None ≡ found (first n p)
   unfolding found
   place_clear i h l = rw (first_clear i h l)
 

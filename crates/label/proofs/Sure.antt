@@ -77,4 +77,21 @@ lt_sure a b h = sym (lt-ltb a b h)
 pub ge_sure : (a b : ℕ) → b ≤ a → false ≡ ltb a b
 ge_sure a b h = sym (le-ltb a b h)
 
-pub ruleset sure = (told, and_no, and_no_r, and_on, and_on_r, or_yes, or_yes_r, or_on, not_yes, not_no, not_is, eq_sure, ne_sure, eq_right, ne_right, eq_here, ne_here, le_sure, gt_sure, lt_sure, ge_sure, not-true, not-false)
+-- a test that ended a chain of `&&` is its value
+
+pub eq_fails : {r : Bool} (a b : ℕ) → (a ≡ b → ⊥) → false ≡ r → eqb a b ≡ r
+eq_fails a b h e = ne_eqb a b h ∙ e
+
+pub lt_fails : {r : Bool} (a b : ℕ) → b ≤ a → false ≡ r → ltb a b ≡ r
+lt_fails a b h e = le-ltb a b h ∙ e
+
+pub le_fails : {r : Bool} (a b : ℕ) → b < a → false ≡ r → leb a b ≡ r
+le_fails a b h e = lt-leb a b h ∙ e
+
+pub ne_fails : {r : Bool} (a b : ℕ) → a ≡ b → false ≡ r → not (eqb a b) ≡ r
+ne_fails a b h e = ap not (eq-eqb a b h) ∙ e
+
+pub fails : {v r : Bool} → v ≡ false → false ≡ r → v ≡ r
+fails h e = h ∙ e
+
+pub ruleset sure = (told, eq_fails, lt_fails, le_fails, ne_fails, and_no, and_no_r, and_on, and_on_r, or_yes, or_yes_r, or_on, not_yes, not_no, not_is, eq_sure, ne_sure, eq_right, ne_right, eq_here, ne_here, le_sure, gt_sure, lt_sure, ge_sure, not-true, not-false)

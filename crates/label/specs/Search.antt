@@ -1,18 +1,17 @@
 -- The label search: what is asked of one place, and the answer.
-use Rattle.std.specs.Prelude.{ℕ, ◌%◌, ◌≤◌, ◌<◌, ◌≡◌, ◌≢◌, Bool, false, ◌&&◌, List, eqb, ltb, length, get_or}
-use Rattle.std.proofs.Math.Option.{Option, none, some}
+use Rattle.std.specs.Prelude.{ℕ, ◌%◌, ◌≤◌, ◌<◌, ◌≡◌, ◌≢◌, Bool, false, ◌&&◌, List, eqb, ltb, length, get_or, Option, Some, None}
+use Rattle.std.proofs.Math.Option as maybe
 use Rattle.base.specs.Scan.{any}
 use Rattle.meaning.specs.declared.Tag.{Tag}
 use Rattle.meaning.specs.Answer.{block}
 use Rattle.meaning.specs.Flash.{Labels, same_tag, copy_of, r_of, path_of, successor}
 use Rattle.meaning.specs.Labels.{older}
-use Rattle.label.specs.declared.Found.{Found}
-use Rattle.label.specs.declared.Found.TheVariants.{At, Nothing}
+use Rattle.meaning.specs.declared.Block.{Block}
 
 -- the place, if there is one
-unfoldable pub found : Option ℕ → Found
-found none = Nothing
-found (some i) = At (block i)
+unfoldable pub found : maybe.Option ℕ → Option Block
+found maybe.none = None
+found (maybe.some i) = Some (block i)
 
 -- place i is of tag t and r
 unfoldable pub bears : Labels → Tag → ℕ → ℕ → Bool

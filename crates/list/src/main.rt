@@ -4,17 +4,10 @@
 
 use std::io;
 
-fn write(rt: &impl Print, out: &[u8], n: usize) -> io::Result<()> {
-    if n <= out.len() {
-        rt.write_all(&out[0..n])?;
-    }
-    Ok(())
-}
-
 fn main(rt: HostRuntime) -> io::Result<()> {
     let mut text = [0u8; 81920];
     let n = input::read_full(&mut rt.stdin(), &mut text)?;
     let mut out = [0u8; 327680];
     let end = lister::list(&text[..n], 1, &mut out);
-    write(&rt, &out, end)
+    rt.write_all(out.get(..end).unwrap_or(&[]))
 }

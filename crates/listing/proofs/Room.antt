@@ -9,6 +9,8 @@ use lib.Seq.{take_at}
 use Rattle.base.specs.Choice.{bind}
 use Rattle.base.proofs.Choices.{all_true, all_less, all_eq}
 use Rattle.base.proofs.Tests.{lt_or}
+use Rattle.std.specs.Prelude.{Option, Some, None}
+use Rattle.meaning.specs.declared.Address.{Address}
 use Rattle.meaning.specs.declared.Record.{Record}
 use Rattle.meaning.specs.declared.Extent.{Extent}
 use Rattle.meaning.specs.declared.Refusal.{Refusal}
@@ -16,8 +18,6 @@ use Rattle.meaning.specs.Answer.{number_of, place_of}
 use Rattle.text.proofs.Puts.{put_fits, end_fits, end_full}
 use Rattle.listing.specs.Wrote.{Wrote}
 use Rattle.listing.specs.Lines.{joined, digits_of, decimal, field, hex_text, percent, escaped, escapes, name_text, insertion_text, total_line, record_text, file_line, run_line, extent_line, refusal_line}
-use Rattle.listing.specs.declared.Insertion.{Insertion}
-use Rattle.listing.specs.declared.Insertion.TheVariants.{At, Nowhere}
 
 -- ---- the buffer then begins with the line
 
@@ -75,10 +75,10 @@ pub name_most : (name : List ℕ) → length name ≤ 255 → length (name_text 
 unfolding name_text
 name_most name h = all_eq (λ (x : List ℕ). length x ≤ 765) (length name) 0 _ _ (λ e. omega arith) (λ e. omega (arith, escapes_most name))
 
-insertion_most : (p : Insertion) → length (insertion_text p) ≤ 21
+insertion_most : (p : Option Address) → length (insertion_text p) ≤ 21
 unfolding insertion_text joined
-insertion_most (At a) = field_most a.0
-insertion_most Nowhere = omega arith
+insertion_most (Some a) = field_most a.0
+insertion_most None = omega arith
 
 joined_length : (x : List ℕ) (xs : List (List ℕ)) → length (joined (x ∷ xs)) ≡ length x + length (joined xs)
 unfolding joined
@@ -88,7 +88,7 @@ joined_none : length (joined []) ≡ 0
 unfolding joined
 joined_none = refl
 
-pub total_most : (records extents applied ignored : ℕ) (p : Insertion) → length (total_line records extents applied ignored p) ≤ 107
+pub total_most : (records extents applied ignored : ℕ) (p : Option Address) → length (total_line records extents applied ignored p) ≤ 107
 unfolding total_line
 total_most a b c d p = simp (joined_length, joined_none) (omega (arith, field_most a, field_most b, field_most c, field_most d, insertion_most p))
 

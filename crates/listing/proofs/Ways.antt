@@ -1,26 +1,20 @@
 -- What is written in pieces is written as a whole.
 use Prim.Native.Nat.{ℕ, zero, suc, ◌+◌, ◌-◌, ◌/◌, ◌%◌, ◌≤◌, ◌<◌}
 use native.Mathlib.Numerals.{sub-one}
-use mathlib.Core.Bool.{Bool, true, false}
 use mathlib.Core.List.{List, [], ◌∷◌, ◌++◌, append-nil}
 use mathlib.Core.Path.{◌≡◌, refl, sym, ◌∙◌}
 use lib.ListN.{length, set, get_or}
 use lib.Seq.{set_out}
-use Rattle.base.specs.Choice.{if_true, if_less, if_eq, bind}
+use Rattle.base.specs.Choice.{if_less, if_eq, bind}
 use Rattle.base.proofs.Ways as choice
-use lib.Dec.{leb}
-use borrow.Author.Tests.{le-leb, lt-leb}
+use Rattle.std.specs.Prelude.{Option, Some, None}
 use Rattle.meaning.specs.declared.Address.{Address}
-use Rattle.meaning.specs.declared.Extent.{Extent}
-use Rattle.meaning.specs.Message.{in_log}
 use Rattle.text.specs.Piece.{tab}
 use Rattle.text.specs.Put.{put, end_of}
 use Rattle.text.proofs.Puts.{past_in, past_out, put_append, end_append}
 use Rattle.listing.specs.Wrote.{Wrote}
 use Rattle.listing.proofs.Left.{Left, left_start, left_done, left_on}
-use Rattle.listing.specs.Lines.{joined, digits_of, escaped, escapes, extent_line, field, insertion_text, run_line}
-use Rattle.listing.specs.declared.Insertion.{Insertion}
-use Rattle.listing.specs.declared.Insertion.TheVariants.{At, Nowhere}
+use Rattle.listing.specs.Lines.{joined, digits_of, escaped, escapes, field, insertion_text}
 
 -- ---- a byte, with room and without
 
@@ -57,12 +51,6 @@ module _ {l m : List ℕ} {at to : ℕ} where
   unfolding joined
   wrote_last x p = rw append-nil p
 
-  pub wrote_yes : (b : Bool) (x y : List ℕ) → b ≡ true → Wrote l at x m to → Wrote l at (if_true b x y) m to
-  wrote_yes b x y h p = rw (sym (choice.holds b x y h refl)) p
-
-  pub wrote_no : (b : Bool) (x y : List ℕ) → b ≡ false → Wrote l at y m to → Wrote l at (if_true b x y) m to
-  wrote_no b x y h p = rw (sym (choice.fails b x y h refl)) p
-
   pub wrote_yes< : (a b : ℕ) (x y : List ℕ) → a < b → Wrote l at x m to → Wrote l at (if_less a b x y) m to
   wrote_yes< a b x y h p = rw (sym (choice.yes< a b x y h refl)) p
 
@@ -79,39 +67,15 @@ module _ {l m : List ℕ} {at to : ℕ} where
   unfolding bind
   wrote_bound v f e p = rw (sym e) p
 
-  pub wrote_at : {a : Address} (p : Insertion) → p ≡ At a → Wrote l at (field a.0) m to → Wrote l at (insertion_text p) m to
+  pub wrote_at : {a : Address} (p : Option Address) → p ≡ Some a → Wrote l at (field a.0) m to → Wrote l at (insertion_text p) m to
   unfolding insertion_text
   wrote_at p e w = rw e w
 
-  pub wrote_nowhere : (p : Insertion) → p ≡ Nowhere → Wrote l at (joined ((tab ∷ []) ∷ (45 ∷ []) ∷ [])) m to → Wrote l at (insertion_text p) m to
+  pub wrote_nowhere : (p : Option Address) → p ≡ None → Wrote l at (joined ((tab ∷ []) ∷ (45 ∷ []) ∷ [])) m to → Wrote l at (insertion_text p) m to
   unfolding insertion_text
   wrote_nowhere p e w = rw e w
 
-  -- an extent in the log, and one in the data
-  pub wrote_log : (e : Extent) → 2147483648 ≤ e.address → Wrote l at (run_line e 76 (e.address - 2147483648)) m to → Wrote l at (extent_line e) m to
-  unfolding extent_line in_log
-  wrote_log e h p = wrote_yes (leb 2147483648 e.address) _ _ (le-leb 2147483648 e.address h) p
-
-  pub wrote_data : (e : Extent) → e.address < 2147483648 → Wrote l at (run_line e 68 e.address) m to → Wrote l at (extent_line e) m to
-  unfolding extent_line in_log
-  wrote_data e h p = wrote_no (leb 2147483648 e.address) _ _ (lt-leb 2147483648 e.address h) p
-
-pub ruleset ways = (
-  wrote_none,
-  wrote_one,
-  wrote_full,
-  wrote_on,
-  wrote_last,
-  wrote_yes,
-  wrote_no,
-  wrote_yes<,
-  wrote_no<,
-  wrote_yes=,
-  wrote_no=,
-  wrote_bound,
-  wrote_at,
-  wrote_nowhere,
-)
+pub ruleset ways = (wrote_none, wrote_one, wrote_full, wrote_on, wrote_last, wrote_bound, wrote_at, wrote_nowhere)
 
 -- ---- digits: none, one, or those of n / 10 and one more
 

@@ -1,14 +1,13 @@
 -- The lines of the listing (01, "The listing program"). Every line ends in a newline, and its fields are parted by one tab.
-use Rattle.std.specs.Prelude.{ℕ, zero, suc, ◌+◌, ◌-◌, ◌/◌, ◌%◌, ◌^◌, List, [], ◌∷◌, ◌++◌, length}
+use Rattle.std.specs.Prelude.{ℕ, zero, suc, ◌+◌, ◌-◌, ◌/◌, ◌%◌, ◌^◌, List, [], ◌∷◌, ◌++◌, length, Option, Some, None}
 use Rattle.base.specs.Choice.{if_true, if_less, if_eq, bind}
+use Rattle.meaning.specs.declared.Address.{Address}
 use Rattle.meaning.specs.declared.Record.{Record}
 use Rattle.meaning.specs.declared.Extent.{Extent}
 use Rattle.meaning.specs.declared.Refusal.{Refusal}
 use Rattle.meaning.specs.Answer.{number_of, place_of}
 use Rattle.meaning.specs.Message.{in_log}
 use Rattle.text.specs.Piece.{tab, newline}
-use Rattle.listing.specs.declared.Insertion.{Insertion}
-use Rattle.listing.specs.declared.Insertion.TheVariants.{At, Nowhere}
 
 -- one after another
 unfoldable pub joined : List (List ℕ) → List ℕ
@@ -61,12 +60,12 @@ name_text name = if_eq (length name) 0 (47 ∷ []) (escapes name)
 -- ---- the lines
 
 -- "insertion address or `-`"
-unfoldable pub insertion_text : Insertion → List ℕ
-insertion_text (At a) = field a.0
-insertion_text Nowhere = joined ((tab ∷ []) ∷ (45 ∷ []) ∷ [])
+unfoldable pub insertion_text : Option Address → List ℕ
+insertion_text (Some a) = field a.0
+insertion_text None = joined ((tab ∷ []) ∷ (45 ∷ []) ∷ [])
 
 -- "T: records, extents, messages applied, ignored (`e` in neither), insertion address or `-`."
-unfoldable pub total_line : ℕ → ℕ → ℕ → ℕ → Insertion → List ℕ
+unfoldable pub total_line : ℕ → ℕ → ℕ → ℕ → Option Address → List ℕ
 total_line records extents applied ignored p =
     joined ((84 ∷ []) ∷ field records ∷ field extents ∷ field applied ∷ field ignored ∷ insertion_text p ∷ (newline ∷ []) ∷ [])
 

@@ -1,7 +1,8 @@
 -- The whole listing of a mount, and what the listing program writes of a text.
-use Rattle.std.specs.Prelude.{ℕ, List, [], ◌∷◌, ◌++◌, length}
-use Rattle.std.proofs.Math.Option.{Option, none, some}
+use Rattle.std.specs.Prelude.{ℕ, List, [], ◌∷◌, ◌++◌, length, Option, Some, None}
+use Rattle.std.proofs.Math.Option as maybe
 use Rattle.base.specs.Choice.{if_eq}
+use Rattle.meaning.specs.declared.Address.{Address}
 use Rattle.meaning.specs.declared.Record.{Record}
 use Rattle.meaning.specs.declared.Extent.{Extent}
 use Rattle.meaning.specs.Answer.{Answer, ok, no, address}
@@ -9,12 +10,10 @@ use Rattle.meaning.specs.Flash.{text}
 use Rattle.meaning.specs.Mount.{Mounted, mount_of}
 use Rattle.dump.specs.Given.{given}
 use Rattle.listing.specs.Lines.{total_line, file_line, extent_line, refusal_line}
-use Rattle.listing.specs.declared.Insertion.{Insertion}
-use Rattle.listing.specs.declared.Insertion.TheVariants.{At, Nowhere}
 
-unfoldable pub insertion_of : Option ℕ → Insertion
-insertion_of none = Nowhere
-insertion_of (some a) = At (address a)
+unfoldable pub insertion_of : maybe.Option ℕ → Option Address
+insertion_of maybe.none = None
+insertion_of (maybe.some a) = Some (address a)
 
 -- the extents of file p, in their order: "E, after its F"
 unfoldable pub extent_lines : ℕ → List Extent → List ℕ

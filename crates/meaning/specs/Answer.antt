@@ -1,5 +1,5 @@
 -- Refusals, and an answer that is a value or a refusal (01, "Refusal numbers and their order").
-use Rattle.std.specs.Prelude.{ℕ, Bool}
+use Rattle.std.specs.Prelude.{ℕ, Bool, Result, Ok, Err}
 use Rattle.std.proofs.Math.Option.{Option, none, some}
 use Rattle.meaning.specs.declared.Number.{Number}
 use Rattle.meaning.specs.declared.Address.{Address}
@@ -58,6 +58,11 @@ place_of (refused.Dump l) = l
 pub data Answer (A : Type 0) : Type 0 where
   ok : A → Answer A
   no : Refusal → Answer A
+
+-- what the code answers: f of its value, or its refusal
+abbrev pub answer_by : {A B : Type 0} → (A → B) → Result A Refusal → Answer B
+answer_by f (Ok x) = ok (f x)
+answer_by f (Err r) = no r
 
 -- the refusal, if there is one, else the answer
 unfoldable pub unless : {A : Type 0} → Option Refusal → Answer A → Answer A

@@ -4,7 +4,7 @@
 
 /// Page size in bytes, pages a block, blocks.
 #[repr(C)]
-#[derive(Clone, Copy)]
+#[derive(Clone, Copy, PartialEq, Eq)]
 pub struct Geometry {
     pub size: u16,
     pub pages: u16,
@@ -12,19 +12,19 @@ pub struct Geometry {
 }
 
 /// A logical block number: what a label says. It leads to a place only through the label search.
-#[derive(Clone, Copy)]
+#[derive(Clone, Copy, PartialEq, Eq)]
 pub struct Number(pub u32);
 
 /// A logical byte address: (number × pages per block + page) × page size + offset.
-#[derive(Clone, Copy)]
+#[derive(Clone, Copy, PartialEq, Eq)]
 pub struct Address(pub u64);
 
 /// A physical block index: a place in the lent slices, never a number.
-#[derive(Clone, Copy)]
+#[derive(Clone, Copy, PartialEq, Eq)]
 pub struct Block(pub usize);
 
 /// What a tag byte means.
-#[derive(Clone, Copy)]
+#[derive(Clone, Copy, PartialEq, Eq)]
 pub enum Tag {
     Free,
     Boot,
@@ -35,7 +35,7 @@ pub enum Tag {
 
 /// The log as the labels plan it: the active log's generation and first number, and how many blocks of the swept and of the
 /// active log are replayed.
-#[derive(Clone, Copy)]
+#[derive(Clone, Copy, PartialEq, Eq)]
 pub struct Plan {
     pub generation: u8,
     pub start: Number,
@@ -45,7 +45,7 @@ pub struct Plan {
 
 /// Where a string's bytes stand: the index of the first in the lent contents, and how many.
 #[repr(C)]
-#[derive(Clone, Copy)]
+#[derive(Clone, Copy, PartialEq, Eq)]
 pub struct Place {
     pub at: u32,
     pub len: u32,
@@ -53,7 +53,7 @@ pub struct Place {
 
 /// One file.
 #[repr(C)]
-#[derive(Clone, Copy)]
+#[derive(Clone, Copy, PartialEq, Eq)]
 pub struct Record {
     pub path: u32,
     pub parent: u32,
@@ -69,7 +69,7 @@ pub struct Record {
 
 /// A run of a file's bytes. The address is the message's flashaddr: bit 31 is set where the bytes stand in the log.
 #[repr(C)]
-#[derive(Clone, Copy)]
+#[derive(Clone, Copy, PartialEq, Eq)]
 pub struct Extent {
     pub path: u32,
     pub offset: u32,
@@ -79,7 +79,7 @@ pub struct Extent {
 
 /// A message of the log. The fields are in such an order that every place stands at a multiple of its size: a message then stays
 /// in registers.
-#[derive(Clone, Copy)]
+#[derive(Clone, Copy, PartialEq, Eq)]
 pub enum Message {
     Create {
         parent: u32,
@@ -121,7 +121,7 @@ pub enum Message {
 
 /// What stands at a position of a log page: nothing that has its form, the end of the page's messages, or a message and the
 /// position past it.
-#[derive(Clone, Copy)]
+#[derive(Clone, Copy, PartialEq, Eq)]
 pub enum Parsed {
     Malformed,
     End,
@@ -129,7 +129,7 @@ pub enum Parsed {
 }
 
 /// What replay says of a message: applied, or the first test of document 01 that it failed, in the order written there.
-#[derive(Clone, Copy)]
+#[derive(Clone, Copy, PartialEq, Eq)]
 pub enum Verdict {
     Applied,
     NoParent,
@@ -145,7 +145,7 @@ pub enum Verdict {
 }
 
 /// A step of a settle or a reclaim.
-#[derive(Clone, Copy)]
+#[derive(Clone, Copy, PartialEq, Eq)]
 pub enum Step {
     Erase(Block),
     PageWrite { from: Block, to: Block, page: usize },
@@ -153,7 +153,7 @@ pub enum Step {
 }
 
 /// A refusal, with the place that it gives.
-#[derive(Clone, Copy)]
+#[derive(Clone, Copy, PartialEq, Eq)]
 pub enum Refusal {
     Geometry,
     Tag(Block),

@@ -2,10 +2,6 @@
 use mathlib.Core.Path.{◌≡◌, refl}
 use mathlib.Core.List.{List}
 use Prim.Native.Nat.{ℕ}
-use Rattle.meaning.specs.declared.Place.{Place}
-use Rattle.meaning.specs.declared.Extent.{Extent}
-use Rattle.meaning.specs.declared.Parsed.TheVariants.{Found}
-use Rattle.meaning.specs.declared.Message.TheVariants.{Write}
 use Rattle.meaning.specs.Message.{create_at, remove_at, truncate_at, wstat_at, place_at}
 use Rattle.message.specs.Page.{page}
 
@@ -26,6 +22,4 @@ module _ (b : List ℕ) (a begin path p end : ℕ) where
   unfolding wstat_at place_at
   wstat_anywhere = refl
 
--- a write found, field by field
-pub found_write : (run : Extent) {x y x' y' : ℕ} {m m' : Place} (end : ℕ) → x ≡ x' → y ≡ y' → m ≡ m' → Found (Write run x m y) end ≡ Found (Write run x' m' y') end
-found_write run end a b c = cc
+pub ruleset anywhere = (create_anywhere, remove_anywhere, truncate_anywhere, wstat_anywhere)

@@ -1,4 +1,3 @@
 -- Laws that the proofs of the functions share.
 pub mod Scanned
-pub mod Names
 pub mod Anywhere

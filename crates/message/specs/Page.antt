@@ -2,7 +2,6 @@
 use Rattle.std.specs.Prelude.{ℕ, ◌^◌, ◌≤◌, ◌<◌, Bool, not, List, length}
 use Rattle.meaning.specs.declared.Geometry.{Geometry}
 use Rattle.meaning.specs.Flash.{block_size}
-use Rattle.base.specs.Scan.{all_of}
 use Rattle.meaning.specs.Message.{Page, barred}
 
 abbrev pub page : List ℕ → ℕ → ℕ → Page
@@ -25,6 +24,3 @@ pub record Framed (bytes : List ℕ) (begin p end : ℕ) : Type 0 where
 -- neither `/` nor a zero byte
 unfoldable pub plain : ℕ → Bool
 plain c = not (barred c)
-
-unfoldable pub all_plain : List ℕ → Bool
-all_plain s = all_of plain s

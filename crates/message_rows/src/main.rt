@@ -4,10 +4,10 @@
 // `malformed` and the position.
 #![tactic(auto)]
 
-ghost use Rattle.std.specs.Prelude.{◌+◌, ◌<◌, ◌≤◌, length};
+ghost use Rattle.std.specs.Prelude.{◌≡◌, ◌<◌, length};
 
 use meaning::{Address, Extent, Geometry, Message, Parsed, Place};
-use std::io;
+use std::{fmt, io};
 
 // ---- a row's bytes
 
@@ -15,48 +15,38 @@ use std::io;
 fn digit(c: u8) -> u8
     ensures { result < 16 }
 {
-    if c < 48 {
-        return 0;
+    match c {
+        b'0'..=b'9' => c - b'0',
+        b'a'..=b'f' => c - b'a' + 10,
+        _ => 0,
     }
-    if c < 58 {
-        return c - 48;
-    }
-    if c < 97 {
-        return 0;
-    }
-    if c < 103 {
-        return c - 87;
-    }
-    0
 }
 
-// The row that begins at a place of the input.
-fn page_of(input: &[u8], row: usize) -> [u8; 512]
-    requires { row + 1025 ≤ length input.now }
+fn page_of(row: &[u8]) -> [u8; 512]
+    requires { length row.now ≡ 1025 }
 {
     let mut page = [0u8; 512];
-    let mut i: usize = 0;
-    while i < 512 {
-        let high = digit(input[row + 2 * i]);
-        let low = digit(input[row + 2 * i + 1]);
-        page[i] = 16 * high + low;
-        i += 1;
+    for i in 0..512 {
+        page[i] = 16 * digit(row[2 * i]) + digit(row[2 * i + 1]);
     }
     page
 }
 
 // ---- a message's fields
 
-fn number(rt: &impl Print, n: u32) -> io::Result<()> {
-    print!(rt; "\t{n}")
+// A string's place.
+#[derive(Clone, Copy, Drop)]
+struct Shown(Place);
+
+impl fmt::Display for Shown {
+    fn fmt<W: fmt::Write>(&self, f: &mut fmt::Formatter<W>) -> fmt::Result {
+        let at = self.0.at;
+        let len = self.0.len;
+        write!(f, "{at}+{len}")
+    }
 }
 
-fn place(rt: &impl Print, p: Place) -> io::Result<()> {
-    number(rt, p.at)?;
-    let len = p.len;
-    print!(rt; "+{len}")
-}
-
+// The fields come one by one, as the match on a message takes them apart.
 fn print_create(
     rt: &impl Print,
     parent: u32,
@@ -68,36 +58,12 @@ fn print_create(
     uid: Place,
     gid: Place,
 ) -> io::Result<()> {
-    rt.print("c")?;
-    number(rt, parent)?;
-    number(rt, perm)?;
-    number(rt, path)?;
-    number(rt, mtime)?;
-    number(rt, cvers)?;
-    place(rt, name)?;
-    place(rt, uid)?;
-    place(rt, gid)
-}
-
-fn print_remove(rt: &impl Print, path: u32, mtime: u32, muid: Place) -> io::Result<()> {
-    rt.print("r")?;
-    number(rt, path)?;
-    number(rt, mtime)?;
-    place(rt, muid)
-}
-
-fn print_truncate(
-    rt: &impl Print,
-    path: u32,
-    mtime: u32,
-    cvers: u32,
-    muid: Place,
-) -> io::Result<()> {
-    rt.print("t")?;
-    number(rt, path)?;
-    number(rt, mtime)?;
-    number(rt, cvers)?;
-    place(rt, muid)
+    print!(rt;
+        "c\t{parent}\t{perm}\t{path}\t{mtime}\t{cvers}\t{}\t{}\t{}",
+        Shown(name),
+        Shown(uid),
+        Shown(gid)
+    )
 }
 
 fn print_write(
@@ -107,14 +73,14 @@ fn print_write(
     cvers: u32,
     muid: Place,
 ) -> io::Result<()> {
-    rt.print("w")?;
-    number(rt, run.path)?;
-    number(rt, run.offset)?;
-    number(rt, run.count)?;
-    number(rt, mtime)?;
-    number(rt, cvers)?;
-    place(rt, muid)?;
-    number(rt, run.address)
+    print!(rt;
+        "w\t{}\t{}\t{}\t{mtime}\t{cvers}\t{}\t{}",
+        run.path,
+        run.offset,
+        run.count,
+        Shown(muid),
+        run.address
+    )
 }
 
 fn print_wstat(
@@ -127,14 +93,11 @@ fn print_wstat(
     mtime: u32,
     muid: Place,
 ) -> io::Result<()> {
-    rt.print("W")?;
-    number(rt, path)?;
-    place(rt, name)?;
-    number(rt, perm)?;
-    place(rt, uid)?;
-    place(rt, gid)?;
-    number(rt, mtime)?;
-    place(rt, muid)
+    let name = Shown(name);
+    let uid = Shown(uid);
+    let gid = Shown(gid);
+    let muid = Shown(muid);
+    print!(rt; "W\t{path}\t{name}\t{perm}\t{uid}\t{gid}\t{mtime}\t{muid}")
 }
 
 fn print_message(rt: &impl Print, m: Message) -> io::Result<()> {
@@ -149,13 +112,13 @@ fn print_message(rt: &impl Print, m: Message) -> io::Result<()> {
             uid,
             gid,
         } => print_create(rt, parent, perm, path, mtime, cvers, name, uid, gid),
-        Message::Remove { path, mtime, muid } => print_remove(rt, path, mtime, muid),
+        Message::Remove { path, mtime, muid } => print!(rt; "r\t{path}\t{mtime}\t{}", Shown(muid)),
         Message::Truncate {
             path,
             mtime,
             cvers,
             muid,
-        } => print_truncate(rt, path, mtime, cvers, muid),
+        } => print!(rt; "t\t{path}\t{mtime}\t{cvers}\t{}", Shown(muid)),
         Message::Write {
             run,
             mtime,
@@ -176,10 +139,6 @@ fn print_message(rt: &impl Print, m: Message) -> io::Result<()> {
 
 // ---- pages
 
-fn print_end(rt: &impl Print, at: usize) -> io::Result<()> {
-    println!(rt; "\t{at}")
-}
-
 // What stands at a position of a page that is block 0's first.
 fn parse_at(page: &[u8; 512], at: usize) -> Parsed {
     let g = Geometry {
@@ -197,14 +156,11 @@ fn walk(rt: &impl Print, page: &[u8; 512]) -> io::Result<()> {
         match parse_at(page, at) {
             Parsed::Found(m, next) => {
                 print_message(rt, m)?;
-                print_end(rt, next)?;
+                println!(rt; "\t{next}")?;
                 at = next;
             }
             Parsed::End => return rt.println("end"),
-            Parsed::Malformed => {
-                rt.print("malformed")?;
-                return print_end(rt, at);
-            }
+            Parsed::Malformed => return println!(rt; "malformed\t{at}"),
         }
     }
     Ok(())
@@ -219,11 +175,8 @@ fn print_page(rt: &impl Print, page: &[u8; 512]) -> io::Result<()> {
 
 // An incomplete row ends the input.
 fn rows(rt: &impl Print, input: &[u8]) -> io::Result<()> {
-    let mut row: usize = 0;
-    while 1025 <= input.len() - row {
-        let page = page_of(input, row);
-        print_page(rt, &page)?;
-        row += 1025;
+    for row in input.chunks_exact(1025) {
+        print_page(rt, &page_of(row))?;
     }
     Ok(())
 }

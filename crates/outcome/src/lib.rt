@@ -1,8 +1,9 @@
 // How a service ended, in the numbers of document 01: what a host sees of a refusal.
 #![tactic(auto)]
 
-ghost use Rattle.std.specs.Prelude.{◌≡◌};
+ghost use Rattle.std.specs.Prelude.{◌≡◌, Err};
 ghost use Rattle.meaning.specs.Answer.{number_of, place_of};
+ghost use Rattle.outcome.specs.Outcome.{outcome_of};
 
 use meaning::Refusal;
 
@@ -15,6 +16,7 @@ pub struct Outcome {
 }
 
 /// The column "no." of document 01's table.
+#[tactic(auto, unfolding(meaning::specs::Answer::number_of))]
 pub fn number_of(r: Refusal) -> u32
     ensures { result ≡ number_of r }
 {
@@ -38,6 +40,7 @@ pub fn number_of(r: Refusal) -> u32
 }
 
 /// The column "place given".
+#[tactic(auto, unfolding(meaning::specs::Answer::place_of))]
 pub fn place_of(r: Refusal) -> u64
     ensures { result ≡ place_of r }
 {
@@ -60,20 +63,27 @@ pub fn place_of(r: Refusal) -> u64
     }
 }
 
-/// Nothing was refused.
-pub fn whole() -> Outcome
-    ensures { (result.refusal ≡ 0) × (result.place ≡ 0) }
-{
-    Outcome {
-        refusal: 0,
-        place: 0,
+impl From<Refusal> for Outcome {
+    ghost from_gives = { λ r o. o ≡ outcome_of (Err r) };
+
+    fn from(r: Refusal) -> Outcome {
+        Outcome {
+            refusal: number_of(r),
+            place: place_of(r),
+        }
     }
 }
 
-pub fn refused(r: Refusal) -> Outcome
-    ensures { (result.refusal ≡ number_of r) × (result.place ≡ place_of r) }
-{
-    let refusal = number_of(r);
-    let place = place_of(r);
-    Outcome { refusal, place }
+impl From<Result<(), Refusal>> for Outcome {
+    ghost from_gives = { λ r o. o ≡ outcome_of r };
+
+    fn from(r: Result<(), Refusal>) -> Outcome {
+        match r {
+            Ok(()) => Outcome {
+                refusal: 0,
+                place: 0,
+            },
+            Err(x) => Outcome::from(x),
+        }
+    }
 }

@@ -4,6 +4,8 @@ use Prim.Native.Nat.{ℕ, ◌+◌, ◌≤◌, ◌<◌}
 use native.Mathlib.Omega.{arith}
 use mathlib.Core.Bool.{Bool, true, false, not, ◌&&◌, ◌||◌}
 use mathlib.Core.Option.{none, some}
+use Rattle.std.specs.Prelude as answer
+use Rattle.std.specs.Prelude.{Some, None}
 use mathlib.Core.Path.{◌≡◌, sym, ap, ◌∙◌, subst}
 use mathlib.Core.Logic.{◌≢◌, ◌⊎◌, inl, inr, ⊎_elim}
 use lib.Dec.{T, eqb, eqb→eq}
@@ -11,13 +13,14 @@ use Rattle.base.specs.Scan.{any, first}
 use Rattle.base.proofs.Tests.{T-yes, is_true, is_false, not_both, T-not→, →T_not, T-ext, T-dec, and_l, and_r, and_i, or_l, or_r, or_cases, eqb_of, →not_eqb, eq_or, lt_or, tests, makes}
 use Rattle.base.proofs.Scans.{Found, any_intro, any_elim, first_none, first_some}
 use Rattle.meaning.specs.declared.Block.{Block}
+use denote.Enum.Bare.{sameb}
+use Rattle.meaning.specs.contracts.Tag.{the_type}
+use Rattle.label.proofs.Said.{same_tags}
 use Rattle.meaning.specs.declared.Tag.{Tag}
 use Rattle.meaning.specs.declared.Tag.TheVariants.{Free}
 use Rattle.meaning.specs.Flash.{Labels, byte_of, copy_of, follows, r_of, same_tag, successor}
 use Rattle.meaning.specs.Labels.{clash, newer, same_block, unresolved}
 use Rattle.label.specs.Search.{bears, found}
-use Rattle.label.specs.declared.Found as answer
-use Rattle.label.specs.declared.Found.TheVariants.{At, Nothing}
 use Rattle.label.proofs.Answered.{at_some, nothing_none}
 use Rattle.plan.specs.Ask.{apart, bearer}
 
@@ -170,9 +173,9 @@ module _ (m : Labels) where
 
 -- ---- in the code's terms: t and r are those of place i, and v says whether it is free
 
-module _ (n : ℕ) (m : Labels) (i : ℕ) {v : Bool} {t : Tag} (et : t ≡ m.tag i) (ev : v ≡ same_tag t Free) where
+module _ (n : ℕ) (m : Labels) (i : ℕ) {v : Bool} {t : Tag} (et : t ≡ m.tag i) (ev : v ≡ sameb the_type t Free) where
   free : v ≡ same_tag (m.tag i) Free
-  free = ev ∙ ap (λ (s : Tag). same_tag s Free) et
+  free = ev ∙ same_tags t Free ∙ ap (λ (s : Tag). same_tag s Free) et
 
   pub copies_free : v ≡ true → false ≡ unresolved n m i
   unfolding same_tag
@@ -184,21 +187,21 @@ module _ (n : ℕ) (m : Labels) (i : ℕ) {v : Bool} {t : Tag} (et : t ≡ m.tag
     used e = not_both _ (sym free ∙ g) (eqb_of e)
 
     -- an answer about t and r is one about place i
-    about : {x : answer.Found} (from : ℕ) → x ≡ found (first n (bearer m t r from)) → x ≡ found (first n (bearer m (m.tag i) (r_of (m.path i)) from))
+    about : {x : answer.Option Block} (from : ℕ) → x ≡ found (first n (bearer m t r from)) → x ≡ found (first n (bearer m (m.tag i) (r_of (m.path i)) from))
     about from e = e ∙ ap (λ (s : Tag). found (first n (bearer m s r from))) et ∙ ap (λ (k : ℕ). found (first n (bearer m (m.tag i) k from))) er
 
-    pub copies_none : {x : answer.Found} → x ≡ found (first n (bearer m t r 0)) → x ≡ Nothing → false ≡ unresolved n m i
+    pub copies_none : {x : answer.Option Block} → x ≡ found (first n (bearer m t r 0)) → x ≡ None → false ≡ unresolved n m i
     copies_none e f = sym (is_false _ (fine_by m n i (λ j k hj hk d s u a. no_kin m n i 0 j (nothing_none _ (about 0 e) f) (omega arith) hj s)))
 
-    module _ {x : answer.Found} {a : Block} (e : x ≡ found (first n (bearer m t r 0))) (f : x ≡ At a) where
-      pub copies_one : {y : answer.Found} → y ≡ found (first n (bearer m t r (a.0 + 1))) → y ≡ Nothing → false ≡ unresolved n m i
+    module _ {x : answer.Option Block} {a : Block} (e : x ≡ found (first n (bearer m t r 0))) (f : x ≡ Some a) where
+      pub copies_one : {y : answer.Option Block} → y ≡ found (first n (bearer m t r (a.0 + 1))) → y ≡ None → false ≡ unresolved n m i
       copies_one h k = sym (is_false _ (one_fine m n i used a.0 (at_some _ (about 0 e) f) (nothing_none _ (about _ h) k)))
 
-      module _ {y z : answer.Found} {b : Block} (h : y ≡ found (first n (bearer m t r (a.0 + 1)))) (k : y ≡ At b) (l : z ≡ found (first n (bearer m t r (b.0 + 1)))) where
-        pub copies_three : {c : Block} → z ≡ At c → true ≡ unresolved n m i
+      module _ {y z : answer.Option Block} {b : Block} (h : y ≡ found (first n (bearer m t r (a.0 + 1)))) (k : y ≡ Some b) (l : z ≡ found (first n (bearer m t r (b.0 + 1)))) where
+        pub copies_three : {c : Block} → z ≡ Some c → true ≡ unresolved n m i
         copies_three {c} w = sym (is_true _ (three_bad m n i used a.0 (at_some _ (about 0 e) f) b.0 (at_some _ (about _ h) k) c.0 (at_some _ (about _ l) w)))
 
-        pub copies_two : {s : Bool} → z ≡ Nothing → s ≡ apart m a.0 b.0 → s ≡ unresolved n m i
+        pub copies_two : {s : Bool} → z ≡ None → s ≡ apart m a.0 b.0 → s ≡ unresolved n m i
         copies_two w q = q ∙ two_is m n i used a.0 (at_some _ (about 0 e) f) b.0 (at_some _ (about _ h) k) (nothing_none _ (about _ l) w)
 
 pub ruleset copies = (copies_free, copies_none, copies_one, copies_three, copies_two)

@@ -58,6 +58,16 @@ module _ (n : ℕ) (v : ℕ → Option ℕ) (g bound : ℕ) where
   pub run_none : (from : ℕ) → bound ≤ from → 0 ≡ unbroken n v g bound from n
   run_none from l = run_past from 0 from (run_start from) l
 
+  -- by the number alone: c is how far it lies above the first
+  pub run_from : (from : ℕ) → Running from (from - from) from
+  run_from from = let z : from - from ≡ 0 = omega arith in rw z (run_start from)
+
+  pub run_next : {x : Bool} (from k : ℕ) → Running from (k - from) k → from ≤ k → k - from < n → k < bound → x ≡ has n v (k * 4 + g) → x ≡ true → Running from (k + 1 - from) (k + 1)
+  run_next from k h a q l e f = let z : k + 1 - from ≡ k - from + 1 = omega arith in rw z (run_more from (k - from) k h q l e f)
+
+  pub run_to_bound : (from k : ℕ) → Running from (k - from) k → bound ≤ k → k ≤ bound → bound - from ≡ unbroken n v g bound from n
+  run_to_bound from k h a b = let z : bound ≡ k = omega arith in let w : bound - from ≡ k - from = omega arith in w ∙ run_past from (k - from) k h a
+
 pub ruleset runs = (run_start, run_none, run_past, run_gap, run_all, run_more, not-true, not-false)
 
 -- the plan's parts are the definition's; the swept log is counted up to the active log's first number

@@ -4,7 +4,9 @@ use native.Mathlib.Nat.{mul-le-mul}
 use native.Mathlib.Omega.{arith}
 use mathlib.Core.Bool.{Bool, true, false, not, ◌&&◌}
 use mathlib.Core.List.{List}
-use mathlib.Core.Option.{Option}
+use mathlib.Core.Option.{Option, none, some}
+use Rattle.std.specs.Prelude as answer
+use Rattle.std.specs.Prelude.{Some, None}
 use mathlib.Core.Path.{◌≡◌, refl, sym, ap, ap₂, ◌∙◌}
 use mathlib.Core.Logic.{◌≢◌, ⊎_elim}
 use lib.ListN.{get_or}
@@ -18,9 +20,6 @@ use Rattle.meaning.specs.declared.Tag.{Tag}
 use Rattle.meaning.specs.Flash.{Labels, bad_path, bad_tag, copy_of, follows, labels_of, log_generation, log_number, log_r, r_of, tag_of}
 use Rattle.meaning.specs.Labels.{counts, dropped, find, generation_at, has, has_generation, in_active, placed, view}
 use Rattle.label.specs.Search.{found}
-use Rattle.label.specs.declared.Found.{Found}
-use Rattle.label.specs.declared.Found.TheVariants.{At, Nothing}
-use Rattle.label.proofs.Answered.{at_some, nothing_none}
 use Rattle.label.proofs.Older.{view_fails, view_passes}
 use Rattle.label.proofs.Scanned.{Clear}
 use Rattle.meaning.specs.Labels.{of_generation, unplaced}
@@ -51,9 +50,9 @@ module _ (tags paths : List ℕ) (i : ℕ) where
   copy_is e f = e ∙ ap copy_of f
 
 module _ {v : Bool} {a b : ℕ} (m : Labels) (i j : ℕ) (e : a ≡ copy_of (m.path i)) (f : b ≡ copy_of (m.path j)) (g : v ≡ follows a b) where
-  pub apart_no : v ≡ true → false ≡ apart m i j
+  pub apart_no : v ≡ true → not v ≡ apart m i j
   unfolding apart
-  apart_no h = rw (← e, ← f, ← g, h)
+  apart_no h = rw (h, ← e, ← f, ← g, h)
 
   pub apart_is : {w : Bool} → v ≡ false → w ≡ follows b a → not w ≡ apart m i j
   unfolding apart
@@ -67,17 +66,15 @@ clear_from m t r from = record { none = λ k q. rw (lt-leb from k q) }
 
 -- ---- the search
 
-pub has_at : {x : Found} {b : Block} (n : ℕ) (v : ℕ → Option ℕ) (r : ℕ) → x ≡ found (find n v r) → x ≡ At b → true ≡ has n v r
-unfolding has is_some
-has_at n v r e f = rw (at_some (find n v r) e f)
+pub has_found : {x : answer.Option Block} (n : ℕ) (v : ℕ → Option ℕ) (r : ℕ) → x ≡ found (find n v r) → answer.is_some x ≡ has n v r
+unfolding has is_some found
+has_found n v r e = rw e (go (find n v r))
+  where
+    go : (o : Option ℕ) → answer.is_some (found o) ≡ is_some o
+    go none = refl
+    go (some i) = refl
 
-pub has_nothing : {x : Found} (n : ℕ) (v : ℕ → Option ℕ) (r : ℕ) → x ≡ found (find n v r) → x ≡ Nothing → false ≡ has n v r
-unfolding has is_some
-has_nothing n v r e f = rw (nothing_none (find n v r) e f)
-
-pub ruleset told_has = (has_at, has_nothing)
-
-pub find_is : {x : Found} {g : ℕ} (n : ℕ) (v : ℕ → Option ℕ) (p : Plan) (k : ℕ) → x ≡ found (find n v (k * 4 + g)) → g ≡ generation_at p k
+pub find_is : {x : answer.Option Block} {g : ℕ} (n : ℕ) (v : ℕ → Option ℕ) (p : Plan) (k : ℕ) → x ≡ found (find n v (k * 4 + g)) → g ≡ generation_at p k
     → x ≡ found (find n v (log_r k (generation_at p k)))
 unfolding log_r
 find_is n v p k e f = e ∙ ap (λ (h : ℕ). found (find n v (k * 4 + h))) f

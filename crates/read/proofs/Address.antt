@@ -11,6 +11,8 @@ use lib.Arith.{digits_div, digits_mod}
 use lib.Dec.{T, eqb, eqb→eq, leb, le→leb, leb→le}
 use lib.ListN.{length, get_or, take, drop, replicate}
 use lib.Seq.{get_or-take, get_or-drop}
+use Rattle.std.specs.Prelude as std
+use Rattle.std.specs.Prelude.{Some, None}
 use Rattle.base.specs.Choice.{on_some}
 use Rattle.base.proofs.Choices.{if_yes, if_no, less_yes, less_no}
 use Rattle.base.proofs.Scans.{first_some}
@@ -25,8 +27,6 @@ use Rattle.meaning.specs.Message.{in_log}
 use Rattle.meaning.specs.Log.{bytes_at}
 use Rattle.meaning.specs.Mount.{byte_at, byte_in, log_bytes, data_bytes}
 use Rattle.label.specs.Search.{found}
-use Rattle.label.specs.declared.Found.{Found}
-use Rattle.label.specs.declared.Found.TheVariants.{At, Nothing}
 use Rattle.label.proofs.Answered.{nothing_none, at_some}
 use Rattle.flash_log.specs.Cursor.{Ready}
 use Rattle.flash_log.proofs.Sizes.{Sizes, sizes, block_in, block_size_high, contents_low}
@@ -168,7 +168,7 @@ number_is g a {c} {n} h e f =
 abbrev labels : Lent → Labels
 labels l = labels_of l.tags l.paths
 
-module _ (g : Geometry) (l : Lent) (p : Plan) (r : Ready g l p) (a : ℕ) {x : Found} {c n : ℕ} (w : a < 2 ^ 32) (e : c ≡ bare a)
+module _ (g : Geometry) (l : Lent) (p : Plan) (r : Ready g l p) (a : ℕ) {x : std.Option Block} {c n : ℕ} (w : a < 2 ^ 32) (e : c ≡ bare a)
     (f : n ≡ min (c / block_size g) 4294967295) where
   pub place_data : a < 2 ^ 31 → x ≡ found (find_data (length l.tags) (labels l) n) → x ≡ found (place_at g (labels l) a)
   unfolding place_at
@@ -207,13 +207,13 @@ place_below g m a b e = ⊎_elim
     (λ (h : 2 ^ 31 ≤ a). (first_some g.blocks _ b (sym (less_no a (2 ^ 31) _ _ h) ∙ e)).0)
     (lt_or a (2 ^ 31))
 
-module _ (g : Geometry) (l : Lent) (p : Plan) (r : Ready g l p) (a n : ℕ) (short : n ≤ block_size g - bare a % block_size g) {x : Found}
+module _ (g : Geometry) (l : Lent) (p : Plan) (r : Ready g l p) (a n : ℕ) (short : n ≤ block_size g - bare a % block_size g) {x : std.Option Block}
     (e : x ≡ found (place_at g (labels l) a)) where
-  pub piece_absent : {last : List ℕ} → x ≡ Nothing → last ≡ replicate n 0 → last ≡ stretch (byte_at g (image_of g l)) a n
+  pub piece_absent : {last : List ℕ} → x ≡ None → last ≡ replicate n 0 → last ≡ stretch (byte_at g (image_of g l)) a n
   unfolding image_of
   piece_absent h q = q ∙ sym (piece_zeros g l r.fit a n short (nothing_none _ e h))
 
-  module _ {b : Block} (h : x ≡ At b) {s o c : ℕ} (z : s ≡ block_size g) (f : o ≡ c % block_size g) (w : c ≡ bare a) where
+  module _ {b : Block} (h : x ≡ Some b) {s o c : ℕ} (z : s ≡ block_size g) (f : o ≡ c % block_size g) (w : c ≡ bare a) where
     begin_is : b.0 * s + o ≡ b.0 * block_size g + bare a % block_size g
     begin_is = ap (λ (k : ℕ). b.0 * k + o) z ∙ ap (λ (k : ℕ). b.0 * block_size g + k) (f ∙ ap (λ (x : ℕ). x % block_size g) w)
 
@@ -237,3 +237,5 @@ module _ (g : Geometry) (l : Lent) (p : Plan) (r : Ready g l p) (a n : ℕ) (sho
         let k : b.0 * s + o + n - (b.0 * s + o) ≡ n = omega arith in
         q ∙ ap (λ (j : ℕ). take j (drop (b.0 * s + o) l.contents)) k ∙ ap (λ (j : ℕ). take n (drop j l.contents)) begin_is
         ∙ sym (piece_part g l r.fit a n short b.0 i (at_some _ e h))
+
+pub ruleset pieces = (piece_absent, piece_low)

@@ -50,6 +50,11 @@ cleared n b {ys} h e =
     let y : ys ≡ replicate n 0 = e ∙ ap (λ (c : ℕ). replicate (length (take c (drop 0 b))) 0) k ∙ ap (λ (c : ℕ). replicate c 0) (length-take-le n b h) in
     rw (k, y) refl
 
+-- the code fills from `from`, which is the first
+pub cleared_from : (n : ℕ) (b : List ℕ) {from : ℕ} {ys : List ℕ} → n ≤ length b → from ≡ 0 → ys ≡ replicate (length (take (n - from) (drop from b))) 0
+    → put_mid from (n - from) b ys ≡ replicate n 0 ++ drop n b
+cleared_from n b {from} {ys} h z e = rw z (cleared n b h (e ∙ ap (λ (k : ℕ). replicate (length (take (n - k) (drop k b))) 0) z))
+
 pub cleared_rest : (n : ℕ) (b : List ℕ) {c : List ℕ} → c ≡ replicate n 0 ++ drop n b → drop n c ≡ drop n b
 cleared_rest n b e = ap (drop n) e ∙ drop_at (replicate n 0) (drop n b) n (length-replicate n 0)
 
@@ -129,6 +134,11 @@ module _ (xs : List (List ℕ)) (w : Within 0 (2 ^ 64) xs) where
     copy_begin low {key} {k} e s f b {l} h =
         h ∙ ap (λ (r : List ℕ). replicate n 0 ++ r) (sym (cleared_rest n b h)) ∙ ap (λ (r : List ℕ). r ++ drop n l) (sym (copy_start low e s))
         ∙ ap (λ (c : ℕ). Bytes (low - c) ++ drop n l) (sym f)
+
+    pub copy_first : (low : ℕ) {key j : ℕ} → key ≡ spot p x → Split key (runs xs (length xs)) low → j ≡ low - 1
+        → (b : List ℕ) {l : List ℕ} → l ≡ replicate n 0 ++ drop n b → l ≡ Bytes j ++ drop n l
+    copy_first low {key} {j} e s f b {l} h =
+        let k : low - min low 1 ≡ j = omega arith in copy_begin low e s refl b h ∙ ap (λ (c : ℕ). Bytes c ++ drop n l) k
 
     -- ---- past the last row
 

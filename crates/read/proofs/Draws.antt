@@ -1,5 +1,5 @@
 -- Runs drawn over zeros, one after another, are the bytes of the file.
-use Prim.Native.Nat.{ℕ, ◌+◌, ◌-◌, ◌≤◌, ◌<◌, min}
+use Prim.Native.Nat.{ℕ, ◌+◌, ◌-◌, ◌≤◌, ◌<◌, min, max}
 use mathlib.Core.Path.{◌≡◌, refl, sym, ap, subst, ◌∙◌}
 use mathlib.Core.Logic.{⊎_elim}
 use mathlib.Core.Option.{Option, some}
@@ -28,6 +28,10 @@ larger_least a b = ⊎_elim
     (λ (h : a < b). let e = less_yes a b b a h in (omega arith, omega arith))
     (λ (h : b ≤ a). let e = less_no a b b a h in (omega arith, omega arith))
     (lt_or a b)
+
+pub max_larger : (a b : ℕ) → max a b ≡ larger a b
+unfolding larger
+max_larger a b = ⊎_elim (λ (h : a < b). let e = less_yes a b b a h in omega arith) (λ (h : b ≤ a). let e = less_no a b b a h in omega arith) (lt_or a b)
 
 larger_below : (a b c : ℕ) → a ≤ c → c < larger a b → c < b
 unfolding larger

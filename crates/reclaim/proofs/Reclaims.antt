@@ -1,9 +1,9 @@
 -- The reclaim of document 01 by what a mount shows, and what its list leaves.
 use Prim.Native.Nat.{ℕ, ◌≤◌, ◌<◌}
-use mathlib.Core.Path.{◌≡◌, refl, sym, ap, subst, ◌∙◌}
+use mathlib.Core.Path.{◌≡◌, refl, sym, ap, ◌∙◌}
 use mathlib.Core.Bool.{true}
 use mathlib.Core.Option.{Option, none, some}
-use mathlib.Core.List.{List, []}
+use mathlib.Core.List.{List}
 use native.Mathlib.Omega.{arith}
 use lib.Dec.{T, eqb→eq}
 use lib.ListN.{length, get_or, take}
@@ -26,13 +26,10 @@ use Rattle.meaning.specs.Labels.{find, find_data, is, view}
 use Rattle.meaning.specs.Mount.{Mounted, mount_of, used_pages}
 use Rattle.meaning.specs.Services.{free_blocks, leaves, lowest_free, reclaim, reclaim_on, reclaim_steps}
 use Rattle.demand.proofs.Demand.{reclaim_runs}
-use Rattle.label.specs.declared.Found.{Found}
-use Rattle.label.specs.declared.Found.TheVariants.{At, Nothing}
+use Rattle.std.specs.Prelude as std
+use Rattle.std.specs.Prelude.{Some, None}
 use Rattle.label.specs.Search.{found}
 use Rattle.flash_log.proofs.Sizes.{sizes}
-use Rattle.replay.specs.declared.Said.{Said}
-use Rattle.replay.specs.declared.Said.TheVariants.{Whole, Refused}
-use Rattle.replay.specs.Replay.{answer_by}
 use Rattle.used.specs.declared.Erase.{Erase}
 use Rattle.used.specs.Bits.{has_page, listed, used_bits}
 use Rattle.used.specs.Erase.{erase_of}
@@ -41,9 +38,7 @@ use Rattle.shown.specs.declared.Shown.{Shown}
 use Rattle.shown.specs.Shown as show
 use Rattle.settle.specs.Settled.{each}
 use Rattle.settle.proofs.Each.{each_does}
-use Rattle.reclaim.specs.declared.Steps.{Steps}
-use Rattle.reclaim.specs.declared.Reclaimed.{Reclaimed}
-use Rattle.reclaim.specs.Reclaimed.{answer, reclaim_by, steps_by, steps_in, Counted, Listing, Silent}
+use Rattle.reclaim.specs.Reclaimed.{reclaim_by, steps_by}
 
 -- ---- by the masks
 
@@ -93,37 +88,32 @@ unfolding mount_of
 mounts_fit g l a = all_true (λ (o : Answer Mounted). o ≡ ok a → fits g l ≡ true) (fits g l) _ _ (λ t e. t) (λ t e. absurd (zero_one (cc)))
 
 -- s is what a mount shows
-module _ (g : Geometry) (l : Lent) (d : ℕ) (s : Shown) (rows : List (List ℕ)) (e : show.showing s rows ≡ mount_of g l) where
-  module _ (w : s.said ≡ Whole) where
-    accepted : mount_of g l ≡ ok (show.mounted s rows)
-    accepted = sym e ∙ ap (λ (y : Said). answer_by y (show.mounted s rows)) w
+module _ (g : Geometry) (l : Lent) (d : ℕ) (s : Shown) (rows : List (List ℕ)) (e : ok (show.mounted s rows) ≡ mount_of g l) where
+  pub shown_fit : fits g l ≡ true
+  shown_fit = mounts_fit g l _ (sym e)
 
-    pub shown_fit : fits g l ≡ true
-    shown_fit = mounts_fit g l _ accepted
-
-    pub by_shown : show.Sized g l s rows → reclaim_by g (image_of g l) d s.used s.erase.count ≡ reclaim g l d
-    unfolding reclaim and_then
-    by_shown z =
-        let h : show.Sizes Whole g l s rows = subst (λ (y : Said). show.Sizes y g l s rows) w z in
-        let c = erase_count s.erase _ h.4 in
-        on_masks g (image_of g l) d (show.mounted s rows) (sizes g l shown_fit).blocks s.used s.erase.count h.3 (c.0 ∙ sym (ap length c.1))
-        ∙ sym (ap (λ (o : Answer Mounted). and_then o (reclaim_on g (image_of g l) d)) accepted)
-
-  pub by_refusal : {x : Refusal} → s.said ≡ Refused x → no x ≡ reclaim g l d
+  pub by_shown : show.Sizes g l s rows → reclaim_by g (image_of g l) d s.used s.erase.count ≡ reclaim g l d
   unfolding reclaim and_then
-  by_refusal w = ap (λ (o : Answer Mounted). and_then o (reclaim_on g (image_of g l) d)) (sym (ap (λ (y : Said). answer_by y (show.mounted s rows)) w) ∙ e)
+  by_shown h =
+      let c = erase_count s.erase _ h.4 in
+      on_masks g (image_of g l) d (show.mounted s rows) (sizes g l shown_fit).blocks s.used s.erase.count h.3 (c.0 ∙ sym (ap length c.1))
+      ∙ ap (λ (o : Answer Mounted). and_then o (reclaim_on g (image_of g l) d)) e
+
+pub by_refusal : {x : Refusal} (g : Geometry) (l : Lent) (d : ℕ) → no x ≡ mount_of g l → no x ≡ reclaim g l d
+unfolding reclaim and_then
+by_refusal g l d e = ap (λ (o : Answer Mounted). and_then o (reclaim_on g (image_of g l) d)) e
 
 -- ---- the code's way through the refusals
 
-nothing_there : (o : Option ℕ) (x : Found) → x ≡ found o → x ≡ Nothing → o ≡ none
+nothing_there : (o : Option ℕ) → None ≡ found o → o ≡ none
 unfolding found
-nothing_there none x e f = refl
-nothing_there (some i) x e f = absurd (zero_one (cc))
+nothing_there none e = refl
+nothing_there (some i) e = absurd (zero_one (cc))
 
-block_there : (o : Option ℕ) (x : Found) (b : Block) → x ≡ found o → x ≡ At b → o ≡ some b.0
+block_there : (o : Option ℕ) (b : Block) → Some b ≡ found o → o ≡ some b.0
 unfolding found
-block_there none x b e f = absurd (zero_one (cc))
-block_there (some i) x b e f = cc
+block_there none b e = absurd (zero_one (cc))
+block_there (some i) b e = cc
 
 module _ (g : Geometry) (l : Lent) (f : fits g l ≡ true) (d : ℕ) (masks : List ℕ) (k : ℕ) where
   abbrev m : Image
@@ -136,16 +126,20 @@ module _ (g : Geometry) (l : Lent) (f : fits g l ≡ true) (d : ℕ) (masks : Li
   unfolding reclaim_by
   by_unsettled h = yes< 0 k _ _ h refl
 
-  module _ (settled : k ≤ 0) {x : Found} (e : x ≡ found (find_data (length l.tags) (labels_of l.tags l.paths) d)) where
-    searched : x ≡ found (find_data g.blocks m.labels d)
+  module _ (settled : k ≤ 0) where
+    searched : {x : std.Option Block} → x ≡ found (find_data (length l.tags) (labels_of l.tags l.paths) d) → x ≡ found (find_data g.blocks m.labels d)
     unfolding image_of
-    searched = e ∙ ap (λ (n : ℕ). found (find_data n (labels_of l.tags l.paths) d)) same
+    searched e = e ∙ ap (λ (n : ℕ). found (find_data n (labels_of l.tags l.paths) d)) same
 
-    pub by_absent : x ≡ Nothing → no (refused.NoBlock (number d)) ≡ reclaim_by g (image_of g l) d masks k
+    pub by_absent : None ≡ found (find_data (length l.tags) (labels_of l.tags l.paths) d) → no (refused.NoBlock (number d)) ≡ reclaim_by g (image_of g l) d masks k
     unfolding reclaim_by on_some
-    by_absent h = no< 0 k _ _ settled (rw (nothing_there _ x searched h))
+    by_absent e = no< 0 k _ _ settled (rw (nothing_there _ (searched e)))
 
-    module _ (old : Block) (h : x ≡ At old) {free : ℕ} (c : free ≡ free_blocks (length l.tags) (labels_of l.tags l.paths)) where
+    module _ {x : std.Option Block} (old : Block) (y : x ≡ found (find_data (length l.tags) (labels_of l.tags l.paths) d)) (h : x ≡ Some old)
+        {free : ℕ} (c : free ≡ free_blocks (length l.tags) (labels_of l.tags l.paths)) where
+      e : Some old ≡ found (find_data (length l.tags) (labels_of l.tags l.paths) d)
+      e = sym h ∙ y
+
       counted : free ≡ free_blocks g.blocks m.labels
       unfolding image_of
       counted = c ∙ ap (λ (n : ℕ). free_blocks n (labels_of l.tags l.paths)) same
@@ -156,27 +150,17 @@ module _ (g : Geometry) (l : Lent) (f : fits g l ≡ true) (d : ℕ) (masks : Li
 
       pub by_few : free < 2 → no (refused.NoRoom free) ≡ reclaim_by g (image_of g l) d masks k
       unfolding reclaim_by on_some
-      by_few q = no< 0 k _ _ settled (rw (block_there _ x old searched h) (rw (sym counted) (yes< free 2 _ _ q refl)))
+      by_few q = no< 0 k _ _ settled (rw (block_there _ old (searched e)) (rw (sym counted) (yes< free 2 _ _ q refl)))
 
       pub by_steps : {ss : List Step} (t mask : ℕ) → 2 ≤ free → t ≡ lowest_free (length l.tags) (labels_of l.tags l.paths) → mask ≡ get_or masks old.0 0
           → ss ≡ steps_by g (image_of g l) d mask old.0 t → ok ss ≡ reclaim_by g (image_of g l) d masks k
       unfolding reclaim_by on_some
       by_steps t mask q p v s =
           let low : t ≡ lowest_free g.blocks m.labels = lowest p in
-          no< 0 k _ _ settled (rw (block_there _ x old searched h) (rw (sym counted, sym low, sym v) (no< free 2 _ _ q (ap {B = Answer (List Step)} ok s))))
+          no< 0 k _ _ settled (rw (block_there _ old (searched e)) (rw (sym counted, sym low, sym v) (no< free 2 _ _ q (ap {B = Answer (List Step)} ok s))))
 
--- ---- a refusal, and what is left
-
-module _ {x : Refusal} (r : Reclaimed) (h : (r.said ≡ Refused x) × (steps_in r.list ≡ []) × Listing 0 r.list) where
-  pub refused_answer : {a : Answer (List Step)} → no x ≡ a → answer r ≡ a
-  refused_answer e = ap (λ (y : Said). answer_by y (steps_in r.list)) h.0 ∙ e
-
-  pub refused_counted : Counted r
-  refused_counted = (subst (λ (y : Said). Silent y r.list) (sym h.0) h.1, (h.2.0, omega (arith, h.2.1)))
+-- ---- what is left
 
 -- the list done step by step is what a reclaim leaves
-pub reclaim_left : (g : Geometry) (l : Lent) (d : ℕ) (y : Said) (ss : Steps) → Silent y ss → answer_by y (steps_in ss) ≡ reclaim g l d
-    → each g l (steps_in ss) ≡ leaves g l (reclaim g l d)
-unfolding each leaves
-reclaim_left g l d Whole ss c e = each_does g l _ _ (reclaim_runs g l d _ (sym e))
-reclaim_left g l d (Refused x) ss c e = rw (c, sym e)
+pub reclaim_left : (g : Geometry) (l : Lent) (d : ℕ) (ss : List Step) → ok ss ≡ reclaim g l d → each g l ss ≡ leaves g l (reclaim g l d)
+reclaim_left g l d ss e = each_does g l _ _ (reclaim_runs g l d _ (sym e))

@@ -1,45 +1,26 @@
 -- The answer of a reclaim, as document 01 has it.
-use Rattle.std.specs.Prelude.{ℕ, ◌≤◌, ◌≡◌, List, [], ◌∷◌, ◌++◌, map, length, get_or, take}
+use Rattle.std.specs.Prelude.{ℕ, List, [], ◌∷◌, ◌++◌, map, get_or, take, Result}
 use Rattle.base.specs.Choice.{if_less, on_some}
 use Rattle.base.specs.Scan.{places}
 use Rattle.meaning.specs.declared.Geometry.{Geometry}
+use Rattle.meaning.specs.declared.Refusal.{Refusal}
 use Rattle.meaning.specs.declared.Refusal.TheVariants as refused
 use Rattle.meaning.specs.declared.Step.{Step}
 use Rattle.meaning.specs.declared.Step.TheVariants.{Erase, PageWrite, LabelWrite}
 use Rattle.meaning.specs.declared.Tag.TheVariants.{Data}
-use Rattle.meaning.specs.Answer.{Answer, ok, no, block, number}
+use Rattle.meaning.specs.Answer.{Answer, answer_by, ok, no, block, number}
 use Rattle.meaning.specs.Flash.{Image, byte_of}
 use Rattle.meaning.specs.Labels.{find_data}
 use Rattle.meaning.specs.Services.{cleared, free_blocks, lowest_free, renewed_path}
 use Rattle.used.specs.Bits.{has_page}
-use Rattle.replay.specs.declared.Said.{Said}
-use Rattle.replay.specs.declared.Said.TheVariants.{Whole, Refused}
-use Rattle.replay.specs.Replay.{answer_by}
-use Rattle.reclaim.specs.declared.Listed.{Listed}
-use Rattle.reclaim.specs.declared.Steps.{Steps}
-use Rattle.reclaim.specs.declared.Reclaimed.{Reclaimed}
-
-abbrev pub step_of : Listed → Step
-step_of x = x.step
+use Rattle.reclaim.specs.declared.steps.Steps.{Steps}
 
 abbrev pub steps_in : Steps → List Step
-steps_in l = map step_of (take l.count l.steps)
+steps_in l = take l.count l.steps
 
 -- "Settle and reclaim also answer with their list of steps"
-abbrev pub answer : Reclaimed → Answer (List Step)
-answer r = answer_by r.said (steps_in r.list)
-
--- at most n are listed
-abbrev pub Listing : ℕ → Steps → Type 0
-Listing n l = (length l.steps ≡ 35) × (l.count ≤ n)
-
--- a refusal lists nothing
-abbrev pub Silent : Said → Steps → Type 0
-Silent Whole l = Unit {0}
-Silent (Refused x) l = steps_in l ≡ []
-
-abbrev pub Counted : Reclaimed → Type 0
-Counted r = Silent r.said r.list × Listing 35 r.list
+abbrev pub answer : Result Steps Refusal → Answer (List Step)
+answer r = answer_by steps_in r
 
 -- ---- by the masks of used pages
 

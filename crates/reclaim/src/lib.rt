@@ -1,300 +1,198 @@
-// Reclaim: one data block written anew without its dead pages. The list of steps is whole before the first of them is done.
+// Reclaim: one data block written anew without its dead pages. The list of steps is whole before the first of them is done. The slices
+// that it writes to stay apart, as in step.
 #![tactic(auto)]
 
-ghost use Rattle.std.specs.Prelude.{◌≡◌, true, [], ◌∷◌, ◌++◌, map, ◌+◌, ◌*◌, ◌≤◌, ◌<◌, length, get_or};
+ghost use Rattle.std.specs.Prelude.{◌≡◌, true, [], ◌∷◌, ◌++◌, map, ◌+◌, ◌<◌, ◌≤◌, get_or};
 ghost use Rattle.base.specs.Scan.{places};
 ghost use Rattle.meaning.specs.declared.Step.TheVariants.{PageWrite};
-ghost use Rattle.meaning.specs.Flash.{block_size, fits, image_of, labels_of};
+ghost use Rattle.meaning.specs.Flash.{fits};
 ghost use Rattle.meaning.specs.Services.{cleared, free_blocks, leaves, lowest_free, reclaim as the_reclaim, renewed_path, writable};
+ghost use Rattle.label.specs.Lent.{blocks, image, labels, lent_of};
 ghost use Rattle.plan.specs.Select.{lent};
 ghost use Rattle.used.specs.Bits.{has_page};
 ghost use Rattle.settle.specs.Settled.{each};
-ghost use Rattle.reclaim.specs.Reclaimed.{answer, reclaim_by, steps_by, steps_in, Counted, Listing};
-ghost use Rattle.replay.specs.declared.Said.TheVariants.{Refused};
+ghost use Rattle.reclaim.specs.Reclaimed.{answer, reclaim_by, steps_by, steps_in};
 
-use label::{Found, Label};
+mod steps;
+
+use label::{Flash, Label};
 use meaning::{Block, Geometry, Number, Refusal, Step, Tag};
-use replay::Said;
-
-/// A step in its place in a list.
-#[derive(Clone, Copy)]
-pub struct Listed {
-    pub step: Step,
-}
-
-/// The first `count` places are the list: at most an erase, 32 pages, the label and an erase.
-#[derive(Clone, Copy)]
-pub struct Steps {
-    pub steps: [Listed; 35],
-    pub count: usize,
-}
-
-/// After a refusal the list is empty.
-#[derive(Clone, Copy)]
-pub struct Reclaimed {
-    pub list: Steps,
-    pub said: Said,
-}
-
-// ---- lists of steps
-
-fn empty() -> Steps
-    ensures { (steps_in result ≡ []) × Listing 0 result }
-{
-    let none = Listed {
-        step: Step::Erase(Block(0)),
-    };
-    Steps {
-        steps: [none; 35],
-        count: 0,
-    }
-}
-
-// The list with a step at its end, whose place the caller tells.
-fn add(l: Steps, at: usize, s: Step) -> Steps
-    requires { Listing 34 l × (at ≡ l.count) }
-    ensures { (steps_in result ≡ steps_in l ++ (s ∷ [])) × (length result.steps ≡ 35) × (result.count ≡ l.count + 1) }
-{
-    let mut steps = l.steps;
-    steps[at] = Listed { step: s };
-    Steps {
-        steps,
-        count: at + 1,
-    }
-}
+pub use steps::Steps;
 
 // ---- the target
 
-fn free_blocks(tags: &[u8], paths: &[u64]) -> usize
-    ensures { (result ≡ free_blocks (length tags.now) (labels_of tags.now paths.now)) × (result ≤ length tags.now) }
+#[tactic(auto, using(crate::proofs::Lists::none_free, crate::proofs::Lists::count_free, crate::proofs::Lists::pass_free, crate::proofs::Lists::all_free))]
+fn free_blocks(flash: &Flash) -> usize
+    ensures { (result ≡ free_blocks (blocks flash.now) (labels flash.now)) × (result ≤ blocks flash.now) }
 {
     let mut free = 0;
-    let mut i = 0;
-    while i < tags.len() {
-        let at = i;
-        i += 1;
-        if label::is_tag(tags, paths, Tag::Free, Block(at)) {
+    for i in 0..flash.tags.len() {
+        if flash.is_tag(Tag::Free, Block(i)) {
             free += 1;
         }
     }
     free
 }
 
-// "the lowest physical free block"
-fn lowest_free(tags: &[u8], paths: &[u64]) -> Block
-    ensures { (result.0 ≡ lowest_free (length tags.now) (labels_of tags.now paths.now)) × (0 < length tags.now → result.0 < length tags.now) }
+// "the lowest physical free block"; 0 where none is free, which is asked before.
+#[tactic(auto, using(label::proofs::Scanned::scans), unfolding(meaning::specs::Services::is_free, meaning::specs::Services::lowest_free))]
+fn lowest_free(flash: &Flash) -> Block
+    ensures { (result.0 ≡ lowest_free (blocks flash.now) (labels flash.now)) × (0 < blocks flash.now → result.0 < blocks flash.now) }
 {
-    let mut i = 0;
-    while i < tags.len() {
-        if label::is_tag(tags, paths, Tag::Free, Block(i)) {
+    for i in 0..flash.tags.len() {
+        if flash.is_tag(Tag::Free, Block(i)) {
             return Block(i);
         }
-        i += 1;
     }
     Block(0)
 }
 
-// Whether the bytes of block b, from `at` up to `end`, are blank.
-fn are_blank(g: Geometry, contents: &[u8], b: Block, at: usize, end: usize) -> bool
-    requires { (at ≡ b.0 * block_size g) × (end ≡ at + block_size g) × (end ≤ length contents.now) }
-    ensures { result ≡ writable (image_of g (lent [] [] contents.now)) b.0 }
-{
-    message::is_blank(&contents[at..end])
-}
-
 // A free tag does not say that the pages are blank.
-fn is_writable(g: Geometry, contents: &[u8], b: Block) -> bool
-    requires { (length contents.now ≡ g.blocks * block_size g) × (b.0 < g.blocks) }
-    ensures { result ≡ writable (image_of g (lent [] [] contents.now)) b.0 }
+#[tactic(auto, using(step::proofs::Place::block_ends, step::proofs::Whole::fit_contents, crate::proofs::Lists::block_blank))]
+fn is_writable(flash: &Flash, b: Block) -> bool
+    requires { (fits flash.now.geometry (lent_of flash.now) ≡ true) × (b.0 < flash.now.geometry.blocks) }
+    ensures { result ≡ writable (image flash.now) b.0 }
 {
-    let size = label::block_size(g) as usize;
+    let size = label::block_size(flash.geometry) as usize;
     let at = b.0 * size;
     let end = at + size;
-    are_blank(g, contents, b, at, end)
+    message::is_blank(&flash.contents[at..end])
 }
 
 // ---- the list, part by part
 
 // "(1) Erase it if not all blank."
-fn clear_target(g: Geometry, contents: &[u8], b: Block) -> Steps
-    requires { (length contents.now ≡ g.blocks * block_size g) × (b.0 < g.blocks) }
-    ensures { (steps_in result ≡ cleared (image_of g (lent [] [] contents.now)) b.0) × Listing 1 result }
+#[tactic(auto, unfolding(meaning::specs::Services::cleared, base::specs::Choice::if_true))]
+fn clear_target(flash: &Flash, b: Block) -> Steps
+    requires { (fits flash.now.geometry (lent_of flash.now) ≡ true) × (b.0 < flash.now.geometry.blocks) }
+    ensures { (steps_in result ≡ cleared (image flash.now) b.0) × (result.count ≤ 1) }
 {
-    let none = empty();
-    if is_writable(g, contents, b) {
-        return none;
+    let none = Steps::empty();
+    if is_writable(flash, b) {
+        none
+    } else {
+        none.add(Step::Erase(b))
     }
-    add(none, none.count, Step::Erase(b))
 }
 
 // "(2) Write each used page, ascending, to the same page of the target."
+#[tactic(auto, using(crate::proofs::Lists::pages_none, crate::proofs::Lists::pages_yes, crate::proofs::Lists::pages_no))]
 fn write_pages(g: Geometry, mask: u32, old: Block, target: Block, l: Steps) -> Steps
-    requires { Listing 1 l × (g.pages ≤ 32) }
-    ensures { (steps_in result ≡ steps_in l ++ map (PageWrite old target) (places g.pages (has_page mask))) × Listing 33 result }
+    requires { (l.count ≤ 1) × (g.pages ≤ 32) }
+    ensures { (steps_in result ≡ steps_in l ++ map (PageWrite old target) (places g.pages (has_page mask))) × (result.count ≤ 33) }
 {
-    let n = g.pages as usize;
     let mut r = l;
-    let mut p: usize = 0;
-    while p < n {
-        let page = p;
-        p += 1;
+    for page in 0..usize::from(g.pages) {
         if used::has_page(mask, page) {
-            r = add(
-                r,
-                r.count,
-                Step::PageWrite {
-                    from: old,
-                    to: target,
-                    page,
-                },
-            );
+            r = r.add(Step::PageWrite {
+                from: old,
+                to: target,
+                page,
+            });
         }
     }
     r
 }
 
 // "data, same number, copy generation + 1 mod 4"
-fn renewed_path(tags: &[u8], paths: &[u64], number: u32, old: Block) -> u64
-    ensures { result ≡ renewed_path (labels_of tags.now paths.now) number old.0 }
+#[tactic(auto, using(crate::proofs::Lists::renews))]
+fn renewed_path(flash: &Flash, number: u32, old: Block) -> u64
+    ensures { result ≡ renewed_path (labels flash.now) number old.0 }
 {
-    let own = label::label_at(tags, paths, old);
-    let copy = own.copy();
-    let next = copy.successor();
-    number as u64 * 4 + next.0 as u64
+    let next = flash.label_at(old).copy().successor();
+    u64::from(number) * 4 + u64::from(next.0)
 }
 
 // "(3) Write the label .. (4) Erase the old block.", after the pages.
-fn list_steps(
-    g: Geometry,
-    tags: &[u8],
-    paths: &[u64],
-    contents: &[u8],
-    number: u32,
-    mask: u32,
-    old: Block,
-    target: Block,
-) -> Steps
-    requires { (fits g (lent tags.now paths.now contents.now) ≡ true) × (target.0 < g.blocks) }
-    ensures { (steps_in result ≡ steps_by g (image_of g (lent tags.now paths.now contents.now)) number mask old.0 target.0) × Listing 35 result }
+#[tactic(auto, using(crate::proofs::Lists::whole_list, crate::proofs::Lists::few_pages))]
+fn list_steps(flash: &Flash, number: u32, mask: u32, old: Block, target: Block) -> Steps
+    requires { (fits flash.now.geometry (lent_of flash.now) ≡ true) × (target.0 < flash.now.geometry.blocks) }
+    ensures { steps_in result ≡ steps_by flash.now.geometry (image flash.now) number mask old.0 target.0 }
 {
-    let first = clear_target(g, contents, target);
-    let pages = write_pages(g, mask, old, target, first);
-    let path = renewed_path(tags, paths, number, old);
-    let labelled = add(
-        pages,
-        pages.count,
-        Step::LabelWrite {
-            block: target,
-            tag: Label::DATA,
-            path,
-        },
-    );
-    add(labelled, labelled.count, Step::Erase(old))
+    let first = clear_target(flash, target);
+    let pages = write_pages(flash.geometry, mask, old, target, first);
+    let path = renewed_path(flash, number, old);
+    let labelled = pages.add(Step::LabelWrite {
+        block: target,
+        tag: Label::DATA,
+        path,
+    });
+    labelled.add(Step::Erase(old))
 }
 
 // ---- the answer
 
-fn refused(x: Refusal) -> Reclaimed
-    ensures { (result.said ≡ Refused x) × (steps_in result.list ≡ []) × Listing 0 result.list }
-{
-    let list = empty();
-    Reclaimed {
-        list,
-        said: Said::Refused(x),
-    }
-}
-
+// The bits of block b's used pages.
 fn mask_of(masks: &[u32], b: Block) -> u32
     ensures { result ≡ get_or masks.now b.0 0 }
 {
-    let i = b.0;
-    if i < masks.len() {
-        return masks[i];
-    }
-    0
+    masks.get(b.0).copied().unwrap_or(0)
 }
 
 // After the mount's refusals: UNSETTLED, NOBLOCK, NOROOM.
-fn list_on(
-    g: Geometry,
-    tags: &[u8],
-    paths: &[u64],
-    contents: &[u8],
-    number: u32,
-    masks: &[u32],
-    unsettled: usize,
-) -> Reclaimed
-    requires { fits g (lent tags.now paths.now contents.now) ≡ true }
-    ensures result_value { answer result ≡ reclaim_by g (image_of g (lent tags.now paths.now contents.now)) number masks.now unsettled }
-    ensures counted { Counted result }
+#[tactic(auto, using(crate::proofs::Reclaims::by_unsettled, crate::proofs::Reclaims::by_absent, crate::proofs::Reclaims::by_few, crate::proofs::Reclaims::by_steps, step::proofs::Whole::fit_tags))]
+fn list_on(flash: &Flash, number: u32, masks: &[u32], unsettled: usize) -> Result<Steps, Refusal>
+    requires { fits flash.now.geometry (lent_of flash.now) ≡ true }
+    ensures { answer result ≡ reclaim_by flash.now.geometry (image flash.now) number masks.now unsettled }
 {
     if 0 < unsettled {
-        return refused(Refusal::Unsettled);
+        return Err(Refusal::Unsettled);
     }
-    let Found::At(old) = label::find_data(tags, paths, Number(number)) else {
-        return refused(Refusal::NoBlock(Number(number)));
+    let n = Number(number);
+    let Some(old) = flash.find_data(n) else {
+        return Err(Refusal::NoBlock(n));
     };
-    let free = free_blocks(tags, paths);
+    let free = free_blocks(flash);
     if free < 2 {
-        return refused(Refusal::NoRoom(free));
+        return Err(Refusal::NoRoom(free));
     }
-    let target = lowest_free(tags, paths);
+    let target = lowest_free(flash);
     let mask = mask_of(masks, old);
-    let list = list_steps(g, tags, paths, contents, number, mask, old, target);
-    Reclaimed {
-        list,
-        said: Said::Whole,
-    }
+    Ok(list_steps(flash, number, mask, old, target))
 }
 
 // The list, from what a mount shows. Nothing is changed yet.
-fn list(g: Geometry, tags: &[u8], paths: &[u64], contents: &[u8], number: u32) -> Reclaimed
-    ensures result_value { answer result ≡ the_reclaim g (lent tags.now paths.now contents.now) number }
-    ensures counted { Counted result }
+#[tactic(auto, using(crate::proofs::Reclaims::shown_fit, crate::proofs::Reclaims::by_shown, crate::proofs::Reclaims::by_refusal))]
+fn list(flash: &Flash, number: u32) -> Result<Steps, Refusal>
+    ensures { answer result ≡ the_reclaim flash.now.geometry (lent_of flash.now) number }
 {
     let mut extents = [[0u32; 4]; 1024];
-    let s = shown::show(g, tags, paths, contents, &mut extents);
-    let said = s.said;
-    match said {
-        Said::Refused(x) => refused(x),
-        Said::Whole => {
-            let masks = s.used;
-            let erase = s.erase;
-            return list_on(g, tags, paths, contents, number, &masks, erase.count);
-        }
-    }
+    let s = shown::show(flash, &mut extents)?;
+    list_on(flash, number, &s.used, s.erase.count)
 }
 
 // ---- the steps
 
-fn do_all(g: Geometry, tags: &mut [u8], paths: &mut [u64], contents: &mut [u8], l: Steps)
-    requires { Listing 35 l }
-    ensures { lent tags.new paths.new contents.new ≡ each g (lent tags.old paths.old contents.old) (steps_in l) }
+// The loop of settle is over numbers of blocks: one loop for both would take a closure, for one line.
+#[tactic(auto, using(settle::proofs::Each::none_done))]
+fn do_all(g: Geometry, tags: &mut [u8], paths: &mut [u64], contents: &mut [u8], steps: &[Step])
+    ensures { lent tags.new paths.new contents.new ≡ each g (lent tags.old paths.old contents.old) steps.now }
 {
-    let n = l.count;
-    let mut i = 0;
-    while i < n {
-        let next = l.steps[i];
-        let s = next.step;
-        let done = step::do_step(g, tags, paths, contents, s);
-        i += 1;
+    for s in steps {
+        let _ = step::do_step(g, tags, paths, contents, *s);
     }
 }
 
 /// "Reclaim rewrites one data block without its dead pages." A refusal is the mount's, UNSETTLED, NOBLOCK or NOROOM, and the
 /// slices are then as they were.
+#[tactic(auto, using(crate::proofs::Reclaims::reclaim_left, settle::proofs::Each::none_left))]
 pub fn reclaim(
     g: Geometry,
     tags: &mut [u8],
     paths: &mut [u64],
     contents: &mut [u8],
     number: u32,
-) -> Reclaimed
-    ensures result_value { (answer result ≡ the_reclaim g (lent tags.old paths.old contents.old) number) × Counted result }
+) -> Result<Steps, Refusal>
+    ensures result_value { answer result ≡ the_reclaim g (lent tags.old paths.old contents.old) number }
     ensures contents_after { lent tags.new paths.new contents.new ≡ leaves g (lent tags.old paths.old contents.old) (the_reclaim g (lent tags.old paths.old contents.old) number) }
 {
-    let r = list(g, tags, paths, contents, number);
-    let steps = r.list;
-    do_all(g, tags, paths, contents, steps);
-    r
+    let flash = Flash {
+        geometry: g,
+        tags,
+        paths,
+        contents,
+    };
+    let list = list(&flash, number)?;
+    do_all(g, tags, paths, contents, list.as_slice());
+    Ok(list)
 }

@@ -6,6 +6,7 @@ use mathlib.Core.List.{List, [], ◌∷◌, ◌++◌, map}
 use native.Mathlib.Omega.{arith}
 use lib.ListN.{length, take, drop, set, get_or, take-append-drop, length-set}
 use lib.Seq.{split_at, get_or-set_same, get_or-set_other, get_or-take, take-suc, length-take-le}
+use Rattle.std.specs.Prelude.{Ok, Err}
 use Rattle.base.specs.Member.{All, In}
 use Rattle.base.proofs.Tests.{eq_or}
 use Rattle.base.proofs.Choices.{eq_yes, eq_no}
@@ -14,10 +15,10 @@ use Rattle.meaning.specs.declared.Extent.{Extent}
 use Rattle.meaning.specs.declared.Record.{Record}
 use Rattle.meaning.specs.Replay.{root, others}
 use Rattle.tree.specs.declared.Tree.{Tree}
-use Rattle.tree.specs.declared.keys.Found.TheVariants.{At, Gap}
 use Rattle.tree.specs.Shift.{insert_at, remove_at}
 use Rattle.tree.specs.Tree.{no_record, record_at, live, files, path_of, Rise, Kept, Stands, put, inserted, removed}
 use Rattle.tree.proofs.Laws.{files_length, found_slot, found_path, kept_put, live_removed, kept_remove, free_slot, live_inserted, kept_insert, slot_there}
+use Rattle.runs.specs.declared.Span.{Span}
 use Rattle.runs.specs.Runs.{capacity, span_at, vacant, gather, Live, Placed, Owned, Rising}
 use Rattle.runs.proofs.Slots.{slot_in}
 use Rattle.runs.proofs.Laws.{gather_open, open_placed, open_owned, gather_close, close_placed, close_owned, start_placed, start_owned, start_gather}
@@ -29,7 +30,7 @@ use Rattle.change.proofs.Steps.{others_twice}
 
 -- ---- paths
 
-owned_by : (path path' : ℕ → ℕ) (spans rows : List (List ℕ)) (ss : List ℕ) → ((s : ℕ) → In s ss → path' s ≡ path s) → Owned path spans rows ss → Owned path' spans rows ss
+owned_by : (path path' : ℕ → ℕ) (spans : List Span) (rows : List (List ℕ)) (ss : List ℕ) → ((s : ℕ) → In s ss → path' s ≡ path s) → Owned path spans rows ss → Owned path' spans rows ss
 owned_by path path' spans rows ss e w = record { own = λ s i. rw (e s i) (w.own s i) }
 
 rise_above : (path : ℕ → ℕ) (lo : ℕ) (ss : List ℕ) → Rise lo (map path ss) → All (λ (s : ℕ). lo ≤ path s) ss
@@ -63,12 +64,12 @@ others_fewer p (x ∷ xs) = ⊎_elim
 
 -- ---- the file of a path is at i
 
-module _ (t : Tree) (spans rows : List (List ℕ)) (room : Room) (h : Held t spans rows room) (p i : ℕ) (d : Stands t.keys t.count p (At i)) where
+module _ (t : Tree) (spans : List Span) (rows : List (List ℕ)) (room : Room) (h : Held t spans rows room) (p i : ℕ) (d : Stands t.keys t.count p (Ok i)) where
   abbrev s : ℕ
   s = get_or t.slots i 0
 
   pub found_in : In s (live t)
-  found_in = slot_in t.slots t.count (live_so t h.kept) i s d.0 refl
+  found_in = slot_in t.slots t.count (live_so t h.kept) i s (omega (arith, length-take-le t.count t.slots (omega (arith, h.kept.few, h.kept.slots_len)), d.0)) (sym (get_or-take t.count t.slots i 0 d.0))
 
   pub found_stands : rooms.Stands spans rows room (live t) s
   found_stands = record { placed = h.placed; one = found_in; used = h.used }
@@ -84,7 +85,7 @@ module _ (t : Tree) (spans rows : List (List ℕ)) (room : Room) (h : Held t spa
         (λ (z : u ≢ s). ap (λ (f : Record). f.path) (get_or-set_other t.records s u q no_record z))
         (eq_or u s)
 
-    pub held_put : (spans' rows' : List (List ℕ)) (room' : Room) (xs : List Extent) → Laid (path_at t) spans' rows' room' (live t) xs → length xs ≤ 1024 → Held (put s q t) spans' rows' room'
+    pub held_put : (spans' : List Span) (rows' : List (List ℕ)) (room' : Room) (xs : List Extent) → Laid (path_at t) spans' rows' room' (live t) xs → length xs ≤ 1024 → Held (put s q t) spans' rows' room'
     held_put spans' rows' room' xs w few = record {
       kept = kept_put t h.kept p i d q e;
       placed = record { parts = w.parts; few = rw w.all few };
@@ -104,7 +105,7 @@ module _ (t : Tree) (spans rows : List (List ℕ)) (room : Room) (h : Held t spa
       ∙ ap (λ (u : ℕ). take i (live t) ++ (u ∷ drop (suc i) (live t))) (get_or-take t.count t.slots i 0 d.0)
 
   -- its rows are cleared, and its place among the keys and slots is closed
-  module _ (spans' rows' : List (List ℕ)) (room' : Room) (w : Laid (path_at t) spans' rows' room' (live t) (others p (gather spans rows (live t)))) where
+  module _ (spans' : List Span) (rows' : List (List ℕ)) (room' : Room) (w : Laid (path_at t) spans' rows' room' (live t) (others p (gather spans rows (live t)))) where
     abbrev ls : List ℕ
     ls = take i (live t)
 
@@ -143,7 +144,7 @@ module _ (t : Tree) (spans rows : List (List ℕ)) (room : Room) (h : Held t spa
 
 -- ---- a new file, in the first free slot
 
-module _ (t : Tree) (spans rows : List (List ℕ)) (room : Room) (h : Held t spans rows room) (p j : ℕ) (d : Stands t.keys t.count p (Gap j)) (q : Record) (e : q.path ≡ p)
+module _ (t : Tree) (spans : List Span) (rows : List (List ℕ)) (room : Room) (h : Held t spans rows room) (p j : ℕ) (d : Stands t.keys t.count p (Err j)) (q : Record) (e : q.path ≡ p)
     (few : t.count < 256) where
   abbrev u : ℕ
   u = get_or t.slots t.count 0
@@ -190,7 +191,7 @@ module _ (t : Tree) (spans rows : List (List ℕ)) (room : Room) (h : Held t spa
 
 -- ---- the root alone
 
-module _ (t : Tree) (k : Kept t) (r : files t ≡ root ∷ []) (spans rows : List (List ℕ)) (hs : length spans ≡ 256) (hr : length rows ≡ capacity) where
+module _ (t : Tree) (k : Kept t) (r : files t ≡ root ∷ []) (spans : List Span) (rows : List (List ℕ)) (hs : length spans ≡ 256) (hr : length rows ≡ capacity) where
   abbrev first : ℕ
   first = get_or t.slots 0 0
 
@@ -203,14 +204,14 @@ module _ (t : Tree) (k : Kept t) (r : files t ≡ root ∷ []) (spans rows : Lis
   pub first_low : first < length spans
   first_low = omega (arith, hs, slot_there t k 0 (omega arith))
 
-  abbrev fresh : List (List ℕ)
+  abbrev fresh : List Span
   fresh = set spans first vacant
 
   fresh_length : length fresh ≡ 256
   fresh_length = length-set spans first vacant ∙ hs
 
   first_fresh : span_at fresh first ≡ vacant
-  first_fresh = get_or-set_same spans first vacant [] first_low
+  first_fresh = get_or-set_same spans first vacant vacant first_low
 
   pub none_gathered : gather fresh rows (live t) ≡ []
   none_gathered = ap (gather fresh rows) alone ∙ start_gather (path_at t) fresh rows first fresh_length hr (slot_there t k 0 (omega arith)) first_fresh

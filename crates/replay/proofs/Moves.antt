@@ -7,6 +7,9 @@ use mathlib.Core.Option.{none, some}
 use mathlib.Core.List.{List, [], ◌∷◌}
 use native.Mathlib.Omega.{arith}
 use lib.ListN.{length, set, get_or}
+use Rattle.std.specs.Prelude.{Result, Ok, Err}
+use Rattle.std.specs.declared.option.Option as option
+use Rattle.std.specs.declared.option.Option.TheVariants as made
 use Rattle.base.proofs.Tests.{lt_or, zero_one}
 use Rattle.base.proofs.Choices.{less_yes, less_no}
 use Rattle.meaning.specs.declared.Address.{Address}
@@ -22,18 +25,15 @@ use Rattle.meaning.specs.Log.{log_of, replayed}
 use Rattle.meaning.specs.Replay.{bit31, is_dir, is_empty, look, alter, insert, delete, applies, judge, extents_after, lay, others, replay}
 use Rattle.flash_log.specs.declared.Cursor.{Cursor}
 use Rattle.tree.specs.declared.Tree.{Tree}
-use Rattle.tree.specs.declared.keys.Found.{Found}
-use Rattle.tree.specs.declared.keys.Found.TheVariants as found
 use Rattle.tree.specs.Shift.{opened, closed}
 use Rattle.tree.specs.Tree.{record_at, live, files, Kept, Rising, put, inserted, removed}
 use Rattle.tree.specs.Tree as trees
 use Rattle.tree.proofs.Laws.{files_length, kept_rising, found_look, found_slot, found_path, found_alter, kept_remove, found_delete, gap_look, gap_insert, slot_there}
 use Rattle.extent.specs.Rows.{Fit}
+use Rattle.runs.specs.declared.Span.{Span}
 use Rattle.runs.specs.Runs.{gather, vacant, Live}
 use Rattle.change.specs.declared.edit.Edit.{Edit}
 use Rattle.change.specs.declared.edit.Edit.TheVariants.{Ignored, Written, Truncated, Restated, Removed}
-use Rattle.change.specs.declared.edit.Made.{Made}
-use Rattle.change.specs.declared.edit.Made.TheVariants.{File, Nothing}
 use Rattle.change.specs.declared.room.Room.{Room}
 use Rattle.change.specs.Edit.{subject, edit_of, newborn, stamped_by}
 use Rattle.change.specs.Room.{Stands, Known, Laid, Turns, Some}
@@ -75,15 +75,9 @@ module _ {t : Tree} (kept : Kept t) where
   pub may_find : (t.count ≤ 256) × Rising t.keys t.count
   may_find = (kept.few, kept_rising t kept)
 
-  module _ (q : ℕ) {i : ℕ} {x : Found} (f : trees.Stands t.keys t.count q x) (xe : x ≡ found.At i) where
-    there : trees.Stands t.keys t.count q (found.At i)
+  module _ (q : ℕ) {i : ℕ} {x : Result ℕ ℕ} (f : trees.Stands t.keys t.count q x) (xe : x ≡ Ok i) where
+    there : trees.Stands t.keys t.count q (Ok i)
     there = subst (trees.Stands t.keys t.count q) xe f
-
-    pub at_count : i < t.count
-    at_count = there.0
-
-    pub at_low : i < 256
-    at_low = omega (arith, there.0, kept.few)
 
     pub at_slot : get_or t.slots i 0 < 256
     at_slot = found_slot t kept q i there
@@ -91,27 +85,23 @@ module _ {t : Tree} (kept : Kept t) where
     pub less_kept : {t₁ : Tree} → t₁ ≡ removed i t → Kept t₁
     less_kept z = rw z (kept_remove t kept q i there)
 
-  module _ (q : ℕ) {j : ℕ} {x : Found} (f : trees.Stands t.keys t.count q x) (xe : x ≡ found.Gap j) where
-    pub gap_low : j ≤ t.count
-    gap_low = (subst (trees.Stands t.keys t.count q) xe f).0
-
-pub free_slot : {t : Tree} {spans rows : List (List ℕ)} {room : Room} {s : ℕ} → Held t spans rows room → t.count < 256 → s ≡ get_or t.slots t.count 0 → (s < length spans) × (s < 256)
+pub free_slot : {t : Tree} {spans : List Span} {rows : List (List ℕ)} {room : Room} {s : ℕ} → Held t spans rows room → t.count < 256 → s ≡ get_or t.slots t.count 0 → (s < length spans) × (s < 256)
 free_slot {t} h few z = let u = slot_there t h.kept t.count few in (omega (arith, u, h.placed.parts.slots), omega (arith, u))
 
 -- ---- a turn
 
-module _ {g : Geometry} {l : Lent} {p : Plan} {t : Tree} {spans rows : List (List ℕ)} {room : Room} {applied ignored : ℕ} {c : Cursor} (k : Going g l p t spans rows room applied ignored c)
+module _ {g : Geometry} {l : Lent} {p : Plan} {t : Tree} {spans : List Span} {rows : List (List ℕ)} {room : Room} {applied ignored : ℕ} {c : Cursor} (k : Going g l p t spans rows room applied ignored c)
     {m : Message} {a : Address} {d : Cursor} (y : Heard g l p c m a d) where
   abbrev kept : Kept t
   kept = k.held.kept
 
   -- ---- the file is there
-  module _ {q i : ℕ} {x : Found} (f : trees.Stands t.keys t.count q x) (xe : x ≡ found.At i) (qe : (q ≡ subject m) × (q < 2 ^ 32)) where
+  module _ {q i : ℕ} {x : Result ℕ ℕ} (f : trees.Stands t.keys t.count q x) (xe : x ≡ Ok i) (qe : (q ≡ subject m) × (q < 2 ^ 32)) where
     abbrev s : ℕ
     s = get_or t.slots i 0
 
-    stands : trees.Stands t.keys t.count (subject m) (found.At i)
-    stands = subst (λ (z : ℕ). trees.Stands t.keys t.count z (found.At i)) qe.0 (subst (trees.Stands t.keys t.count q) xe f)
+    stands : trees.Stands t.keys t.count (subject m) (Ok i)
+    stands = subst (λ (z : ℕ). trees.Stands t.keys t.count z (Ok i)) qe.0 (subst (trees.Stands t.keys t.count q) xe f)
 
     looked : look (subject m) (files t) ≡ some (record_at t s)
     looked = found_look t kept (subject m) i stands
@@ -124,7 +114,7 @@ module _ {g : Geometry} {l : Lent} {p : Plan} {t : Tree} {spans rows : List (Lis
 
     -- ---- a change of its record: the rows hold what the message leaves of the extents
 
-    changed : {spans' rows' : List (List ℕ)} {room' : Room} {v : Edit} {r : Record} {n : ℕ} → Laid (path_at t) spans' rows' room' (live t) (extents_after m (gather spans rows (live t)))
+    changed : {spans' : List Span} {rows' : List (List ℕ)} {room' : Room} {v : Edit} {r : Record} {n : ℕ} → Laid (path_at t) spans' rows' room' (live t) (extents_after m (gather spans rows (live t)))
         → room'.used ≤ 1024 → v ≡ edit_of m (record_at t s) → 1 < rank v → record_of v ≡ r → n ≡ applied + 1 → Going g l p (put s r t) spans' rows' room' n ignored d
     changed {spans'} {rows'} {room'} {r = r} laid u e h z nz =
         let ch : 1 < rank (edit_of m (record_at t s)) = subst (λ (x : Edit). 1 < rank x) e h in
@@ -152,7 +142,7 @@ module _ {g : Geometry} {l : Lent} {p : Plan} {t : Tree} {spans rows : List (Lis
       pub at_run : Live t.slots t.count × Stands spans rows room (live t) s × Some spans rows (live t) s run.path × Fit run
       at_run = (live_so t kept, found_stands t spans rows room k.held (subject m) i stands, (path_at t, known_run), (written_run (record_at t s) m wrote).1 y.ranged)
 
-      module _ {spans' rows' : List (List ℕ)} {room' : Room} (w : Turns spans rows spans' rows' room' (live t) s run.path (lay run (gather spans rows (live t)))) where
+      module _ {spans' : List Span} {rows' : List (List ℕ)} {room' : Room} (w : Turns spans rows spans' rows' room' (live t) s run.path (lay run (gather spans rows (live t)))) where
         laid : Laid (path_at t) spans' rows' room' (live t) (extents_after m (gather spans rows (live t)))
         laid = subst (Laid (path_at t) spans' rows' room' (live t)) (sym (written_extents (record_at t s) m (gather spans rows (live t)) wrote)) (w (path_at t) known_run)
 
@@ -168,7 +158,7 @@ module _ {g : Geometry} {l : Lent} {p : Plan} {t : Tree} {spans rows : List (Lis
     pub at_clear : Stands spans rows room (live t) s × Some spans rows (live t) s q
     at_clear = (found_stands t spans rows room k.held (subject m) i stands, (path_at t, known_too))
 
-    module _ {spans' : List (List ℕ)} {room' : Room} (w : Turns spans rows spans' rows room' (live t) s q (others q (gather spans rows (live t)))) where
+    module _ {spans' : List Span} {room' : Room} (w : Turns spans rows spans' rows room' (live t) s q (others q (gather spans rows (live t)))) where
       cleared : Laid (path_at t) spans' rows room' (live t) (others (subject m) (gather spans rows (live t)))
       cleared = subst (λ (z : ℕ). Laid (path_at t) spans' rows room' (live t) (others z (gather spans rows (live t)))) qe.0 (w (path_at t) known_too)
 
@@ -180,7 +170,7 @@ module _ {g : Geometry} {l : Lent} {p : Plan} {t : Tree} {spans rows : List (Lis
 
     -- ---- a remove, of a file that may go
 
-    module _ {spans' : List (List ℕ)} {room' : Room} (w : Turns spans rows spans' rows room' (live t) s q (others q (gather spans rows (live t)))) {v : Edit} (e : v ≡ edit_of m (record_at t s))
+    module _ {spans' : List Span} {room' : Room} (w : Turns spans rows spans' rows room' (live t) s q (others q (gather spans rows (live t)))) {v : Edit} (e : v ≡ edit_of m (record_at t s))
         (h : v ≡ Removed) (go : is_dir (record_at t s) ≡ true → is_empty (subject m) (files t) ≡ true) where
       ed : edit_of m (record_at t s) ≡ Removed
       ed = sym e ∙ h
@@ -195,8 +185,8 @@ module _ {g : Geometry} {l : Lent} {p : Plan} {t : Tree} {spans rows : List (Lis
         deleted : files t₁ ≡ delete (subject m) (files t)
         deleted = rw z (found_delete t kept (subject m) i stands)
 
-        module _ {x₁ : Found} (f₁ : trees.Stands t₁.keys t₁.count (record_at t s).parent x₁) where
-          pub at_removed : {j n : ℕ} → x₁ ≡ found.Gap j → n ≡ applied + 1 → Going g l p t₁ spans' rows room' n ignored d
+        module _ {x₁ : Result ℕ ℕ} (f₁ : trees.Stands t₁.keys t₁.count (record_at t s).parent x₁) where
+          pub at_removed : {j n : ℕ} → x₁ ≡ Err j → n ≡ applied + 1 → Going g l p t₁ spans' rows room' n ignored d
           at_removed {j} xj nz =
               goes_applied k y nz (removed_there (files t) (record_at t s) m looked ed go) gone
               (deleted
@@ -205,7 +195,7 @@ module _ {g : Geometry} {l : Lent} {p : Plan} {t : Tree} {spans rows : List (Lis
               ∙ sym (removed_records (files t) (record_at t s) m looked ed))
               gathered
 
-          pub at_stamped : {j : ℕ} {r : Record} {n : ℕ} → x₁ ≡ found.At j → r ≡ stamped_by m (record_at t₁ (get_or t₁.slots j 0)) → n ≡ applied + 1
+          pub at_stamped : {j : ℕ} {r : Record} {n : ℕ} → x₁ ≡ Ok j → r ≡ stamped_by m (record_at t₁ (get_or t₁.slots j 0)) → n ≡ applied + 1
               → Going g l p (put (get_or t₁.slots j 0) r t₁) spans' rows room' n ignored d
           at_stamped {j} {r} xj rz nz =
               let o = there gone.kept (record_at t s).parent f₁ xj in
@@ -234,26 +224,26 @@ module _ {g : Geometry} {l : Lent} {p : Plan} {t : Tree} {spans rows : List (Lis
     may_plain ue uh z = absurd (false_true (sym uh ∙ ue ∙ z))
 
   -- ---- the path is free
-  module _ {q j : ℕ} {x : Found} (f : trees.Stands t.keys t.count q x) (xe : x ≡ found.Gap j) (qe : (q ≡ subject m) × (q < 2 ^ 32)) where
-    gap : trees.Stands t.keys t.count (subject m) (found.Gap j)
-    gap = subst (λ (z : ℕ). trees.Stands t.keys t.count z (found.Gap j)) qe.0 (subst (trees.Stands t.keys t.count q) xe f)
+  module _ {q j : ℕ} {x : Result ℕ ℕ} (f : trees.Stands t.keys t.count q x) (xe : x ≡ Err j) (qe : (q ≡ subject m) × (q < 2 ^ 32)) where
+    gap : trees.Stands t.keys t.count (subject m) (Err j)
+    gap = subst (λ (z : ℕ). trees.Stands t.keys t.count z (Err j)) qe.0 (subst (trees.Stands t.keys t.count q) xe f)
 
     missing : look (subject m) (files t) ≡ none
     missing = gap_look t kept (subject m) j gap
 
-    pub gap_ignored : {v : Made} {n : ℕ} → v ≡ newborn m → v ≡ Nothing → n ≡ ignored + 1 → Going g l p t spans rows room applied n d
+    pub gap_ignored : {v : option.Option Record} {n : ℕ} → v ≡ newborn m → v ≡ made.None → n ≡ ignored + 1 → Going g l p t spans rows room applied n d
     gap_ignored e h z = goes_ignored k y z (unborn (files t) m missing (sym e ∙ h))
 
-    module _ {v : Made} {r : Record} (e : v ≡ newborn m) (h : v ≡ File r) where
-      nb : newborn m ≡ File r
+    module _ {v : option.Option Record} {r : Record} (e : v ≡ newborn m) (h : v ≡ made.Some r) where
+      nb : newborn m ≡ made.Some r
       nb = sym e ∙ h
 
-      module _ {x₁ : Found} (f₁ : trees.Stands t.keys t.count r.parent x₁) where
-        pub gap_orphan : {i n : ℕ} → x₁ ≡ found.Gap i → n ≡ ignored + 1 → Going g l p t spans rows room applied n d
+      module _ {x₁ : Result ℕ ℕ} (f₁ : trees.Stands t.keys t.count r.parent x₁) where
+        pub gap_orphan : {i n : ℕ} → x₁ ≡ Err i → n ≡ ignored + 1 → Going g l p t spans rows room applied n d
         gap_orphan {i} xi z =
             goes_ignored k y z (no_parent (files t) r r m nb (gap_look t kept r.parent i (subst (trees.Stands t.keys t.count r.parent) xi f₁)))
 
-        module _ {i : ℕ} (xi : x₁ ≡ found.At i) where
+        module _ {i : ℕ} (xi : x₁ ≡ Ok i) where
           abbrev parent : Record
           parent = record_at t (get_or t.slots i 0)
 
@@ -272,7 +262,7 @@ module _ {g : Geometry} {l : Lent} {p : Plan} {t : Tree} {spans rows : List (Lis
             pub gap_full : t.count ≡ 256 → no (refused.Full a) ≡ replay (log_of g (replayed g (image_of g l)))
             gap_full z = full_records k y born (rw (born_records r m (files t) nb) (omega (arith, insert_length r (files t), files_length t kept)))
 
-            gap_inserted : {t₁ : Tree} {spans₁ : List (List ℕ)} {n : ℕ} → n ≡ applied + 1 → t.count < 256 → t₁ ≡ inserted j r t → spans₁ ≡ set spans (get_or t.slots t.count 0) vacant
+            gap_inserted : {t₁ : Tree} {spans₁ : List Span} {n : ℕ} → n ≡ applied + 1 → t.count < 256 → t₁ ≡ inserted j r t → spans₁ ≡ set spans (get_or t.slots t.count 0) vacant
                 → Going g l p t₁ spans₁ rows room n ignored d
             gap_inserted nz few z sz = rw (z, sz)
                 (goes_applied k y nz born
@@ -281,7 +271,7 @@ module _ {g : Geometry} {l : Lent} {p : Plan} {t : Tree} {spans rows : List (Lis
                 (inserted_gather t spans rows room k.held (subject m) j gap r (born_path r m nb) few ∙ sym (born_extents r m (gather spans rows (live t)) nb)))
 
             -- as the fields are changed, one after another
-            pub gap_opened : {keys slots : List ℕ} {s n : ℕ} {spans₁ : List (List ℕ)} → t.count < 256 → s ≡ get_or t.slots t.count 0 → keys ≡ opened t.count j r.path t.keys
+            pub gap_opened : {keys slots : List ℕ} {s n : ℕ} {spans₁ : List Span} → t.count < 256 → s ≡ get_or t.slots t.count 0 → keys ≡ opened t.count j r.path t.keys
                 → slots ≡ opened t.count j (get_or t.slots t.count 0) t.slots → spans₁ ≡ set spans s vacant → n ≡ applied + 1
                 → Going g l p (record { records = set t.records s r; keys = keys; slots = slots; count = t.count + 1 }) spans₁ rows room n ignored d
             gap_opened few z a b sz nz = gap_inserted nz few (inserted_is t j r z a b) (sz ∙ ap (λ (n : ℕ). set spans n vacant) z)

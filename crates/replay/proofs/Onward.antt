@@ -48,16 +48,15 @@ onward_stopped r t = refl
 -- ---- limits
 
 or_true : (b : Bool) → b || true ≡ true
-unfolding ◌||◌
 or_true true = refl
 or_true false = refl
 
 within : (t : Tree) → length t.records ≤ 256 → length t.extents ≤ 1024 → full t ≡ false
-unfolding full ◌||◌
+unfolding full
 within t h k = rw (le-ltb 256 (length t.records) h, le-ltb 1024 (length t.extents) k)
 
 pub many_records : (t : Tree) → 256 < length t.records → full t ≡ true
-unfolding full ◌||◌
+unfolding full
 many_records t h = rw (lt-ltb 256 (length t.records) h)
 
 pub many_extents : (t : Tree) → 1024 < length t.extents → full t ≡ true

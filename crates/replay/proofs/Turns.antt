@@ -17,8 +17,7 @@ use Rattle.meaning.specs.Log.{Log, entry, log_of, replayed}
 use Rattle.meaning.specs.Replay as meaning
 use Rattle.meaning.specs.Replay.{root, judge, applies, records_after, extents_after, changed, passed_over, bare, replay}
 use Rattle.flash_log.specs.declared.Cursor.{Cursor}
-use Rattle.flash_log.specs.declared.Start.{Start}
-use Rattle.flash_log.specs.declared.Start.TheVariants.{At, Nowhere}
+use Rattle.std.specs.Prelude.{Option, Some, None}
 use Rattle.flash_log.specs.declared.Turn.{Turn}
 use Rattle.flash_log.specs.declared.Turn.TheVariants as turns
 use Rattle.flash_log.specs.Turn.{onto}
@@ -27,6 +26,7 @@ use Rattle.flash_log.proofs.Told.{swept_low, active_low}
 use Rattle.tree.specs.declared.Tree.{Tree}
 use Rattle.tree.specs.Tree.{live, files, Kept}
 use Rattle.tree.proofs.Laws.{files_length}
+use Rattle.runs.specs.declared.Span.{Span}
 use Rattle.runs.specs.Runs.{capacity, gather, vacant}
 use Rattle.change.specs.declared.room.Room.{Room}
 use Rattle.replay.specs.Replay.{shape, Held}
@@ -35,7 +35,7 @@ use Rattle.replay.proofs.Onward.{onward, onward_all, onward_empty, onward_stoppe
 
 -- ---- before a turn
 
-pub record Going (g : Geometry) (l : Lent) (p : Plan) (t : Tree) (spans rows : List (List ℕ)) (room : Room) (applied ignored : ℕ) (c : Cursor) : Type 0 where
+pub record Going (g : Geometry) (l : Lent) (p : Plan) (t : Tree) (spans : List Span) (rows : List (List ℕ)) (room : Room) (applied ignored : ℕ) (c : Cursor) : Type 0 where
   pub at : Placed g l p c
   pub held : Held t spans rows room
   pub rest : onward (ahead g l c) (shape t spans rows applied ignored) ≡ replay (log_of g (replayed g (image_of g l)))
@@ -48,7 +48,7 @@ pub record Heard (g : Geometry) (l : Lent) (p : Plan) (c : Cursor) (m : Message)
   pub ranged : Ranged m
 
 -- the root alone
-module _ (t : Tree) (f : files t ≡ root ∷ []) (k : Kept t) (spans rows : List (List ℕ)) (hs : length spans ≡ 256) (hr : length rows ≡ capacity) {spans' : List (List ℕ)}
+module _ (t : Tree) (f : files t ≡ root ∷ []) (k : Kept t) (spans : List Span) (rows : List (List ℕ)) (hs : length spans ≡ 256) (hr : length rows ≡ capacity) {spans' : List Span}
     (e : spans' ≡ set spans (get_or t.slots 0 0) vacant) where
   pub start_held : Held t spans' rows (record { bump = 0; used = 0 })
   start_held = rw e (held_root t k f spans rows hs hr)
@@ -58,10 +58,10 @@ module _ (t : Tree) (f : files t ≡ root ∷ []) (k : Kept t) (spans rows : Lis
   start_bare = rw e (ap₂ {C = meaning.Tree} (λ rs xs. record { records = rs; extents = xs; applied = 0; ignored = 0 }) f (none_gathered t k f spans rows hs hr))
 
 module _ (g : Geometry) (l : Lent) (p : Plan) where
-  abbrev Begins : Start → Type 0
+  abbrev Begins : Option Cursor → Type 0
   Begins s = Says g l p (whole p) (log_of g (replayed g (image_of g l))) (onto s)
 
-  pub going_first : {t : Tree} {spans rows : List (List ℕ)} {room : Room} {s : Start} {c : Cursor} → Begins s → s ≡ At c → Held t spans rows room → shape t spans rows 0 0 ≡ bare
+  pub going_first : {t : Tree} {spans : List Span} {rows : List (List ℕ)} {room : Room} {s : Option Cursor} {c : Cursor} → Begins s → s ≡ Some c → Held t spans rows room → shape t spans rows 0 0 ≡ bare
       → Going g l p t spans rows room 0 0 c
   going_first {t} {spans} {rows} {room} {s} {c} b e h z =
       let n = subst Begins e b in
@@ -72,7 +72,7 @@ module _ (g : Geometry) (l : Lent) (p : Plan) where
         counts = omega (arith, n.1.less);
       }
 
-  pub nowhere_so : (t : Tree) (spans rows : List (List ℕ)) {s : Start} → Begins s → s ≡ Nowhere → shape t spans rows 0 0 ≡ bare
+  pub nowhere_so : (t : Tree) (spans : List Span) (rows : List (List ℕ)) {s : Option Cursor} → Begins s → s ≡ None → shape t spans rows 0 0 ≡ bare
       → ok (shape t spans rows 0 0) ≡ replay (log_of g (replayed g (image_of g l)))
   nowhere_so t spans rows b e z =
       ap {B = Answer meaning.Tree} ok z ∙ sym (onward_empty bare) ∙ sym (ap (λ (x : Log). onward x bare) (subst Begins e b)) ∙ onward_all _
@@ -85,7 +85,7 @@ module _ (g : Geometry) (l : Lent) (p : Plan) where
   sums_low r n m k h = (omega (arith, counts_low r), omega (arith, counts_low r))
 
 module _ {g : Geometry} {l : Lent} {p : Plan} where
-  module _ {t : Tree} {spans rows : List (List ℕ)} {room : Room} {applied ignored : ℕ} {c : Cursor} (k : Going g l p t spans rows room applied ignored c) where
+  module _ {t : Tree} {spans : List Span} {rows : List (List ℕ)} {room : Room} {applied ignored : ℕ} {c : Cursor} (k : Going g l p t spans rows room applied ignored c) where
     module _ {x : Turn} (s : Says g l p (left g p c) (ahead g l c) x) where
       pub heard : {m : Message} {a : Address} {d : Cursor} → x ≡ turns.Told d m a → Heard g l p c m a d
       heard e =
@@ -108,9 +108,6 @@ module _ {g : Geometry} {l : Lent} {p : Plan} where
             counts = omega (arith, n.1.less, k.counts);
           }
 
-      pub on_less : {d : Cursor} → x ≡ turns.On d → left g p d < left g p c
-      on_less e = (subst (Says g l p (left g p c) (ahead g l c)) e s).1.less
-
     module _ {m : Message} {a : Address} {d : Cursor} (y : Heard g l p c m a d) where
       told_so : onward (entry a.0 m (ahead g l d)) (shape t spans rows applied ignored) ≡ replay (log_of g (replayed g (image_of g l)))
       told_so = ap (λ (z : Log). onward z (shape t spans rows applied ignored)) (sym y.is) ∙ k.rest
@@ -126,7 +123,7 @@ module _ {g : Geometry} {l : Lent} {p : Plan} where
       })
 
       -- the message is applied, within the limits
-      pub goes_applied : {t' : Tree} {spans' rows' : List (List ℕ)} {room' : Room} {n : ℕ} → n ≡ applied + 1 → applies (judge m (files t)) ≡ true → Held t' spans' rows' room'
+      pub goes_applied : {t' : Tree} {spans' : List Span} {rows' : List (List ℕ)} {room' : Room} {n : ℕ} → n ≡ applied + 1 → applies (judge m (files t)) ≡ true → Held t' spans' rows' room'
           → files t' ≡ records_after m (files t) → gather spans' rows' (live t') ≡ extents_after m (gather spans rows (live t)) → Going g l p t' spans' rows' room' n ignored d
       unfolding changed
       goes_applied {t'} {spans'} {rows'} e h w f x = rw e (record {

@@ -3,27 +3,21 @@
 #![tactic(auto)]
 
 ghost use Rattle.std.specs.Prelude.{◌≡◌, ◌≤◌, length};
-ghost use Rattle.meaning.specs.Flash.{image_of};
 ghost use Rattle.meaning.specs.Log.{log_of, replayed};
 ghost use Rattle.meaning.specs.Replay.{replay as the_replay};
-ghost use Rattle.plan.specs.Select.{lent};
-ghost use Rattle.flash_log.specs.Cursor.{Ready};
+ghost use Rattle.label.specs.Lent.{image};
+ghost use Rattle.flash_log.specs.Cursor.{Planned};
 ghost use Rattle.runs.specs.Runs.{capacity};
 ghost use Rattle.replay.specs.Replay.{answer_of, WholeHeld};
 
-use change::{Edit, Made, Room};
-use flash_log::{Start, Turn};
-use meaning::{Address, Geometry, Plan, Refusal};
-use tree::{Found, Tree};
+use change::{Edit, Room};
+use flash_log::Turn;
+use label::Flash;
+use meaning::{Plan, Refusal};
+use runs::Span;
+use tree::Tree;
 
 mod near;
-
-/// How the replay ended: at the log's end, or with 7, 8 or 9.
-#[derive(Clone, Copy)]
-pub enum Said {
-    Whole,
-    Refused(Refusal),
-}
 
 #[derive(Clone, Copy)]
 pub struct Replayed {
@@ -31,22 +25,18 @@ pub struct Replayed {
     pub room: Room,
     pub applied: u64,
     pub ignored: u64,
-    pub said: Said,
 }
 
-/// The tree after the log. The rows of its files stand in spans and rows; what scratch holds is of no use.
+/// The tree after the log, or 7, 8 or 9. The rows of its files stand in spans and rows; what scratch holds is of no use.
 pub fn replay(
-    g: Geometry,
-    tags: &[u8],
-    paths: &[u64],
-    contents: &[u8],
+    flash: &Flash,
     p: Plan,
-    spans: &mut [[u32; 3]],
+    spans: &mut [Span],
     rows: &mut [[u32; 4]],
     scratch: &mut [[u32; 4]],
-) -> Replayed
-    requires { Ready g (lent tags.now paths.now contents.now) p × (length spans.old ≡ 256) × (length rows.old ≡ capacity) × (1024 ≤ length scratch.old) }
-    ensures rows_after { answer_of result spans.new rows.new ≡ the_replay (log_of g (replayed g (image_of g (lent tags.now paths.now contents.now)))) }
+) -> Result<Replayed, Refusal>
+    requires { Planned flash.now p × (length spans.old ≡ 256) × (length rows.old ≡ capacity) × (1024 ≤ length scratch.old) }
+    ensures rows_after { answer_of result spans.new rows.new ≡ the_replay (log_of flash.now.geometry (replayed flash.now.geometry (image flash.now))) }
     ensures whole_held { WholeHeld result spans.new rows.new }
 {
     let mut t = tree::bare();
@@ -58,46 +48,34 @@ pub fn replay(
     // The slot of a path, by its low bits, and where a slot stood last: guesses that are tested before they are used.
     let mut near = [0u8; 1024];
     let mut place = [0u8; 256];
-    let Start::At(first) = flash_log::first(g, tags, paths, contents, p) else {
-        return Replayed {
+    let Some(first) = flash_log::first(flash, p) else {
+        return Ok(Replayed {
             tree: t,
             room,
             applied,
             ignored,
-            said: Said::Whole,
-        };
+        });
     };
     let mut c = first;
     loop {
-        match flash_log::next(g, tags, paths, contents, p, c) {
+        match flash_log::next(flash, p, c) {
             Turn::End => {
-                return Replayed {
+                return Ok(Replayed {
                     tree: t,
                     room,
                     applied,
                     ignored,
-                    said: Said::Whole,
-                };
+                });
             }
-            Turn::Refused(r) => {
-                return Replayed {
-                    tree: t,
-                    room,
-                    applied,
-                    ignored,
-                    said: Said::Refused(r),
-                };
-            }
-            Turn::On(d) => {
-                c = d;
-            }
+            Turn::Refused(r) => return Err(r),
+            Turn::On(d) => c = d,
             Turn::Told(d, m, a) => {
                 c = d;
                 let n = t.count;
                 let path = change::path_of(m);
                 let low = (path % 1024) as usize;
                 match near::find(&t.keys, n, path, &place, near[low]) {
-                    Found::At(i) => {
+                    Ok(i) => {
                         let s = t.slots[i] as usize;
                         near[low] = s as u8;
                         place[s] = i as u8;
@@ -111,13 +89,7 @@ pub fn replay(
                                     spans, rows, scratch, &t.slots, n, room, s, run,
                                 );
                                 if 1024 < room.used {
-                                    return Replayed {
-                                        tree: t,
-                                        room,
-                                        applied,
-                                        ignored,
-                                        said: Said::Refused(Refusal::Full(a)),
-                                    };
+                                    return Err(Refusal::Full(a));
                                 }
                                 t.records[s] = q;
                                 applied += 1;
@@ -133,18 +105,16 @@ pub fn replay(
                                 applied += 1;
                             }
                             Edit::Removed => {
-                                if tree::is_dir(f.perm) {
-                                    if !tree::is_empty(t, f.path) {
-                                        ignored += 1;
-                                        continue;
-                                    }
+                                if tree::is_dir(f.perm) && !tree::is_empty(&t, f.path) {
+                                    ignored += 1;
+                                    continue;
                                 }
                                 room = change::clear(spans, rows, &t.slots, n, room, s, path);
-                                tree::close_key(&mut t.keys, n, i);
+                                tree::close_at(&mut t.keys, n, i);
                                 near::close_slot(&mut t.slots, &mut place, n, i);
                                 t.count = n - 1;
                                 applied += 1;
-                                let Found::At(j) = tree::find(&t.keys, n - 1, f.parent) else {
+                                let Ok(j) = tree::find(&t.keys, n - 1, f.parent) else {
                                     continue;
                                 };
                                 let h = t.slots[j] as usize;
@@ -152,31 +122,24 @@ pub fn replay(
                             }
                         }
                     }
-                    Found::Gap(j) => {
-                        let Made::File(q) = change::made_by(m) else {
+                    Err(j) => {
+                        let Some(q) = change::made_by(m) else {
                             ignored += 1;
                             continue;
                         };
-                        let Found::At(k) = tree::find(&t.keys, n, q.parent) else {
+                        let Ok(k) = tree::find(&t.keys, n, q.parent) else {
                             ignored += 1;
                             continue;
                         };
                         let h = t.slots[k] as usize;
-                        let perm = t.records[h].perm;
-                        if !tree::is_dir(perm) {
+                        if !tree::is_dir(t.records[h].perm) {
                             ignored += 1;
                             continue;
                         }
                         if n == 256 {
-                            return Replayed {
-                                tree: t,
-                                room,
-                                applied,
-                                ignored,
-                                said: Said::Refused(Refusal::Full(a)),
-                            };
+                            return Err(Refusal::Full(a));
                         }
-                        tree::open_key(&mut t.keys, n, j, q.path);
+                        tree::open_at(&mut t.keys, n, j, q.path);
                         let s = near::open_slot(&mut t.slots, &mut place, n, j) as usize;
                         near[low] = s as u8;
                         runs::fresh(spans, s);

@@ -6,15 +6,18 @@ ghost use Rattle.tree.specs.Shift.{opened, closed};
 ghost use Rattle.tree.specs.Tree.{Rising, Slots, Stands};
 ghost use Rattle.replay.specs.Near.{renumbered};
 
-use tree::Found;
-
 /// A path among the first n keys, looked for first where slot s stood.
-pub fn find(keys: &[u32; 256], n: usize, path: u32, place: &[u8; 256], s: u8) -> Found
+pub fn find(
+    keys: &[u32; 256],
+    n: usize,
+    path: u32,
+    place: &[u8; 256],
+    s: u8,
+) -> Result<usize, usize>
     requires { (n ≤ 256) × Rising keys.now n }
     ensures { Stands keys.now n path result }
 {
-    let i = s as usize;
-    tree::find_near(keys, n, path, place[i])
+    tree::find_near(keys, n, path, place[s as usize])
 }
 
 /// The slots at the positions from `from` up to n have their places.
@@ -22,11 +25,8 @@ fn renumber(place: &mut [u8; 256], slots: &[u32; 256], from: usize, n: usize)
     requires { (n ≤ 256) × Slots slots.now }
     ensures { place.new ≡ renumbered slots.now from (n - from) place.old }
 {
-    let mut k = from;
-    while k < n {
-        let s = slots[k] as usize;
-        place[s] = k as u8;
-        k += 1;
+    for k in from..n {
+        place[slots[k] as usize] = k as u8;
     }
 }
 
@@ -36,7 +36,8 @@ pub fn open_slot(slots: &mut [u32; 256], place: &mut [u8; 256], n: usize, i: usi
     ensures value { (result ≡ get_or slots.old n 0) × (slots.new ≡ opened n i (get_or slots.old n 0) slots.old) }
     ensures place_after { place.new ≡ renumbered slots.new i (n + 1 - i) place.old }
 {
-    let s = tree::open_slot(slots, n, i);
+    let s = slots[n];
+    tree::open_at(slots, n, i, s);
     renumber(place, slots, i, n + 1);
     s
 }
@@ -47,6 +48,6 @@ pub fn close_slot(slots: &mut [u32; 256], place: &mut [u8; 256], n: usize, i: us
     ensures slots_after { slots.new ≡ closed n i slots.old }
     ensures place_after { place.new ≡ renumbered slots.new i (n - 1 - i) place.old }
 {
-    tree::close_slot(slots, n, i);
+    tree::close_at(slots, n, i);
     renumber(place, slots, i, n - 1);
 }

@@ -85,15 +85,9 @@ pub fn put_step(buf: &mut [u8], at: usize, s: Step) -> usize
     ensures { Wrote buf.old at (step_line s) buf.new result }
 {
     match s {
-        Step::Erase(b) => {
-            return put_erase(buf, at, b);
-        }
-        Step::PageWrite { from, to, page } => {
-            return put_page_write(buf, at, from, to, page);
-        }
-        Step::LabelWrite { block, tag, path } => {
-            return put_label_write(buf, at, block, tag, path);
-        }
+        Step::Erase(b) => put_erase(buf, at, b),
+        Step::PageWrite { from, to, page } => put_page_write(buf, at, from, to, page),
+        Step::LabelWrite { block, tag, path } => put_label_write(buf, at, block, tag, path),
     }
 }
 
@@ -102,11 +96,9 @@ pub fn put_step(buf: &mut [u8], at: usize, s: Step) -> usize
 fn put_bytes(buf: &mut [u8], at: usize, bytes: &[u8]) -> usize
     ensures { Wrote buf.old at (bytes_text bytes.now) buf.new result }
 {
-    let mut i: usize = 0;
     let mut to = at;
-    while i < bytes.len() {
-        to = listing::put_hex(buf, to, bytes[i]);
-        i += 1;
+    for b in bytes {
+        to = listing::put_hex(buf, to, *b);
     }
     to
 }

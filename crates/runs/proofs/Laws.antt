@@ -15,22 +15,23 @@ use Rattle.extent.specs.Rows.{extent_of, row_of, Fit, Lined, EndsBy, StartsFrom,
 use Rattle.extent.proofs.Line.{lined_wider, lined_higher, lined_above, lined_below}
 use Rattle.extent.proofs.Rows.{extents_of_rows, rows_within}
 use Rattle.extent.proofs.Laws.{lay_between, lay_lined, lay_adds, others_append, others_none, others_all, lined_own}
-use Rattle.runs.specs.Runs.{capacity, first_of, many_of, room_of, span_at, vacant, with, rows_of, runs_of, gather, gather_rows, total, Stand, Distinct, Rising, Parts, Placed, Owned, Kept, put, Open, laid_over, spans_laid, rows_laid}
+use Rattle.runs.specs.declared.Span.{Span}
+use Rattle.runs.specs.Runs.{capacity, span_at, vacant, with, rows_of, runs_of, gather, gather_rows, total, Stand, Distinct, Rising, Parts, Placed, Owned, Kept, put, Open, laid_over, spans_laid, rows_laid}
 use Rattle.runs.proofs.Lists.{put_length, put_own}
 use Rattle.runs.proofs.Slots.{Spot, spot_of, in_with, in_without, in_here, distinct_left, distinct_right, distinct_with, distinct_without, rising_left, rising_right, gather_append, gather_all, gather_same, own_length, rows_length, gather_rows_lem}
 use Rattle.runs.proofs.Moves.{stand_of, rest_of, own_span, other_span, other_rows, reset}
 
 -- ---- slots with the same rows
 
-pub kept_gather : (spans rows spans' rows' : List (List ℕ)) (ss : List ℕ) → Kept spans rows spans' rows' ss → gather spans' rows' ss ≡ gather spans rows ss
+pub kept_gather : (spans : List Span) (rows : List (List ℕ)) (spans' : List Span) (rows' : List (List ℕ)) (ss : List ℕ) → Kept spans rows spans' rows' ss → gather spans' rows' ss ≡ gather spans rows ss
 kept_gather spans rows spans' rows' ss k = gather_same spans rows spans' rows' ss k.same
 
-pub kept_owned : (path : ℕ → ℕ) (spans rows spans' rows' : List (List ℕ)) (ss : List ℕ) → Kept spans rows spans' rows' ss → Owned path spans rows ss → Owned path spans' rows' ss
+pub kept_owned : (path : ℕ → ℕ) (spans : List Span) (rows : List (List ℕ)) (spans' : List Span) (rows' : List (List ℕ)) (ss : List ℕ) → Kept spans rows spans' rows' ss → Owned path spans rows ss → Owned path spans' rows' ss
 kept_owned path spans rows spans' rows' ss k w = record { own = λ s i. rw (k.same s i) (w.own s i) }
 
 -- ---- gathered
 
-pub gathered_runs : (spans rows out out' : List (List ℕ)) (ss : List ℕ) (r : ℕ) → Stand spans rows ss → (r ≡ total spans ss) × (out' ≡ put out 0 (gather_rows spans rows ss))
+pub gathered_runs : (spans : List Span) (rows out out' : List (List ℕ)) (ss : List ℕ) (r : ℕ) → Stand spans rows ss → (r ≡ total spans ss) × (out' ≡ put out 0 (gather_rows spans rows ss))
     → map extent_of (take r out') ≡ gather spans rows ss
 gathered_runs spans rows out out' ss r z e =
     let l : length (gather_rows spans rows ss) ≡ r = rows_length spans rows ss z ∙ sym e.0 in
@@ -60,7 +61,7 @@ run_ends p x e f = omega arith
 
 -- ---- one slot among others
 
-module _ (path : ℕ → ℕ) (spans rows : List (List ℕ)) (s : ℕ) (ls rs : List ℕ) (w : Owned path spans rows (ls ++ (s ∷ rs))) (up : Rising path (ls ++ (s ∷ rs))) where
+module _ (path : ℕ → ℕ) (spans : List Span) (rows : List (List ℕ)) (s : ℕ) (ls rs : List ℕ) (w : Owned path spans rows (ls ++ (s ∷ rs))) (up : Rising path (ls ++ (s ∷ rs))) where
   own_runs : Lined (spot (path s) 0) (spot (path s + 1) 0) (runs_of spans rows s)
   own_runs = (w.own s (in_here s ls rs)).lined
 
@@ -102,7 +103,7 @@ module _ (path : ℕ → ℕ) (spans rows : List (List ℕ)) (s : ℕ) (ls rs : 
       )
 
 -- what is gathered where only the rows of s have changed
-gather_one : (spans rows spans' rows' : List (List ℕ)) (s : ℕ) (ls rs : List ℕ) (xs : List Extent) → Distinct (ls ++ (s ∷ rs))
+gather_one : (spans : List Span) (rows : List (List ℕ)) (spans' : List Span) (rows' : List (List ℕ)) (s : ℕ) (ls rs : List ℕ) (xs : List Extent) → Distinct (ls ++ (s ∷ rs))
     → ((t : ℕ) → In t (ls ++ (s ∷ rs)) → t ≢ s → rows_of spans' rows' t ≡ rows_of spans rows t) → runs_of spans' rows' s ≡ xs
     → gather spans' rows' (ls ++ (s ∷ rs)) ≡ gather spans rows ls ++ (xs ++ gather spans rows rs)
 gather_one spans rows spans' rows' s ls rs xs d f e =
@@ -114,8 +115,8 @@ gather_one spans rows spans' rows' s ls rs xs d f e =
 
 -- ---- lay_at
 
-pub open_at : (path : ℕ → ℕ) (spans rows : List (List ℕ)) (bump : ℕ) (ss : List ℕ) (s : ℕ) (v : List ℕ) → Parts spans rows bump ss → Owned path spans rows ss → In s ss
-    → path s < 2 ^ 32 → many_of (span_at spans s) + 2 ≤ room_of (span_at spans s) → Sound v → Open spans rows s v
+pub open_at : (path : ℕ → ℕ) (spans : List Span) (rows : List (List ℕ)) (bump : ℕ) (ss : List ℕ) (s : ℕ) (v : List ℕ) → Parts spans rows bump ss → Owned path spans rows ss → In s ss
+    → path s < 2 ^ 32 → (span_at spans s).many + 2 ≤ (span_at spans s).room → Sound v → Open spans rows s v
 open_at path spans rows bump ss s v p w i h r u = record {
   slot = (stand_of spans rows bump ss p s i).0;
   room = r;
@@ -127,18 +128,18 @@ open_at path spans rows bump ss s v p w i h r u = record {
   run = u;
 }
 
-module _ (path : ℕ → ℕ) (spans rows : List (List ℕ)) (bump : ℕ) (ss : List ℕ) (s : ℕ) (v : List ℕ) (p : Parts spans rows bump ss) (w : Owned path spans rows ss) (i : In s ss)
-    (r : many_of (span_at spans s) + 2 ≤ room_of (span_at spans s)) (u : Sound v) (e : get_or v 0 0 ≡ path s) where
+module _ (path : ℕ → ℕ) (spans : List Span) (rows : List (List ℕ)) (bump : ℕ) (ss : List ℕ) (s : ℕ) (v : List ℕ) (p : Parts spans rows bump ss) (w : Owned path spans rows ss) (i : In s ss)
+    (r : (span_at spans s).many + 2 ≤ (span_at spans s).room) (u : Sound v) (e : get_or v 0 0 ≡ path s) where
   abbrev xs : List Extent
   xs = laid_over spans rows s v
 
-  abbrev spans' : List (List ℕ)
+  abbrev spans' : List Span
   spans' = spans_laid spans rows s v
 
   abbrev rows' : List (List ℕ)
   rows' = rows_laid spans rows s v
 
-  few_more : length xs ≤ many_of (span_at spans s) + 2
+  few_more : length xs ≤ (span_at spans s).many + 2
   few_more = omega (arith, lay_adds (spot (path s) 0) (spot (path s + 1) 0) (extent_of v) (runs_of spans rows s) (w.own s i).lined, length-map (rows_of spans rows s) extent_of, own_length spans rows s (stand_of spans rows bump ss p s i).1)
 
   as_many : length (map row_of xs) ≡ length xs
@@ -147,17 +148,17 @@ module _ (path : ℕ → ℕ) (spans rows : List (List ℕ)) (bump : ℕ) (ss : 
   laid_span : span_at spans' s ≡ with (span_at spans s) (length xs)
   laid_span = own_span spans s (with (span_at spans s) (length xs)) (stand_of spans rows bump ss p s i).0
 
-  fits : first_of (span_at spans s) + length (map row_of xs) ≤ length rows
+  fits : (span_at spans s).first + length (map row_of xs) ≤ length rows
   fits = omega (arith, as_many, few_more, p.arena, p.top, (p.part s i).room)
 
   laid_rows : rows_of spans' rows' s ≡ map row_of xs
-  laid_rows = rw laid_span (ap (λ (k : ℕ). take k (drop (first_of (span_at spans s)) rows')) (sym as_many) ∙ put_own rows (first_of (span_at spans s)) (map row_of xs) (omega (arith, fits)))
+  laid_rows = rw laid_span (ap (λ (k : ℕ). take k (drop (span_at spans s).first rows')) (sym as_many) ∙ put_own rows (span_at spans s).first (map row_of xs) (omega (arith, fits)))
 
   laid_other : (t : ℕ) → In t ss → t ≢ s → rows_of spans' rows' t ≡ rows_of spans rows t
   laid_other t j n =
-      other_rows spans s (with (span_at spans s) (length xs)) rows (first_of (span_at spans s)) (map row_of xs) t n fits
-      (⊎_elim (λ (a : first_of (span_at spans s) + room_of (span_at spans s) ≤ first_of (span_at spans t)). inr (omega (arith, as_many, few_more)))
-      (λ (b : first_of (span_at spans t) + room_of (span_at spans t) ≤ first_of (span_at spans s)). inl (omega (arith, (p.part t j).many)))
+      other_rows spans s (with (span_at spans s) (length xs)) rows (span_at spans s).first (map row_of xs) t n fits
+      (⊎_elim (λ (a : (span_at spans s).first + (span_at spans s).room ≤ (span_at spans t).first). inr (omega (arith, as_many, few_more)))
+      (λ (b : (span_at spans t).first + (span_at spans t).room ≤ (span_at spans s).first). inl (omega (arith, (p.part t j).many)))
       (p.apart s t i j (λ (z : s ≡ t). n (sym z))))
 
   laid_gathered : (ls rs : List ℕ) → ss ≡ ls ++ (s ∷ rs) → gather spans' rows' ss ≡ gather spans rows ls ++ (xs ++ gather spans rows rs)
@@ -174,7 +175,7 @@ module _ (path : ℕ → ℕ) (spans rows : List (List ℕ)) (bump : ℕ) (ss : 
 
   pub lay_parts : Parts spans' rows' bump ss
   lay_parts =
-      reset spans s (with (span_at spans s) (length xs)) bump ss (rest_of spans rows bump ss s p) rows' bump (p.part s i).slot (put_length rows (first_of (span_at spans s)) (map row_of xs) fits ∙ p.arena) (omega arith) p.top
+      reset spans s (with (span_at spans s) (length xs)) bump ss (rest_of spans rows bump ss s p) rows' bump (p.part s i).slot (put_length rows (span_at spans s).first (map row_of xs) fits ∙ p.arena) (omega arith) p.top
       (omega (arith, few_more)) (p.part s i).room (λ t j n. p.apart s t i j (λ (z : s ≡ t). n (sym z)))
 
   pub lay_owned : Owned path spans' rows' ss
@@ -185,24 +186,20 @@ module _ (path : ℕ → ℕ) (spans rows : List (List ℕ)) (bump : ℕ) (ss : 
         (eq_or t s);
   }
 
-  -- where there are not too many extents then
-  pub lay_placed : Rising path ss → length (lay (extent_of v) (gather spans rows ss)) ≤ 1024 → Placed spans' rows' bump ss
-  lay_placed up h = record { parts = lay_parts; few = rw (gather_lay up) h }
-
   -- how many there are then: by how much the slot's own rows have changed
-  pub lay_count : length (gather spans' rows' ss) + many_of (span_at spans s) ≡ length (gather spans rows ss) + many_of (span_at spans' s)
+  pub lay_count : length (gather spans' rows' ss) + (span_at spans s).many ≡ length (gather spans rows ss) + (span_at spans' s).many
   lay_count =
       let o : Spot s ss = spot_of s ss i in
       let a : length (gather spans' rows' ss) ≡ length (gather spans rows o.left) + (length xs + length (gather spans rows o.right)) = rw (laid_gathered o.left o.right o.is) (simp length-append) in
-      let b : length (gather spans rows ss) ≡ length (gather spans rows o.left) + (many_of (span_at spans s) + length (gather spans rows o.right)) =
+      let b : length (gather spans rows ss) ≡ length (gather spans rows o.left) + ((span_at spans s).many + length (gather spans rows o.right)) =
       ap (λ (l : List ℕ). length (gather spans rows l)) o.is ∙ rw (gather_append spans rows o.left (s ∷ o.right))
       (simp length-append (omega (arith, length-map (rows_of spans rows s) extent_of, own_length spans rows s (stand_of spans rows bump ss p s i).1))) in
       rw laid_span (omega (arith, a, b))
 
 -- ---- clear
 
-module _ (path : ℕ → ℕ) (spans rows : List (List ℕ)) (bump : ℕ) (ss : List ℕ) (s : ℕ) (p : Placed spans rows bump ss) (w : Owned path spans rows ss) (i : In s ss) where
-  abbrev cleared : List (List ℕ)
+module _ (path : ℕ → ℕ) (spans : List Span) (rows : List (List ℕ)) (bump : ℕ) (ss : List ℕ) (s : ℕ) (p : Placed spans rows bump ss) (w : Owned path spans rows ss) (i : In s ss) where
+  abbrev cleared : List Span
   cleared = set spans s (with (span_at spans s) 0)
 
   clear_span : span_at cleared s ≡ with (span_at spans s) 0
@@ -228,10 +225,10 @@ module _ (path : ℕ → ℕ) (spans rows : List (List ℕ)) (bump : ℕ) (ss : 
       (λ t j n. p.parts.apart s t i j (λ (z : s ≡ t). n (sym z)))
 
   -- as many less as the slot had rows
-  pub clear_count : length (gather cleared rows ss) + many_of (span_at spans s) ≡ length (gather spans rows ss)
+  pub clear_count : length (gather cleared rows ss) + (span_at spans s).many ≡ length (gather spans rows ss)
   clear_count =
       let o : Spot s ss = spot_of s ss i in
-      let b : length (gather spans rows ss) ≡ length (gather spans rows o.left) + (many_of (span_at spans s) + length (gather spans rows o.right)) =
+      let b : length (gather spans rows ss) ≡ length (gather spans rows o.left) + ((span_at spans s).many + length (gather spans rows o.right)) =
       ap (λ (l : List ℕ). length (gather spans rows l)) o.is ∙ rw (gather_append spans rows o.left (s ∷ o.right))
       (simp length-append (omega (arith, length-map (rows_of spans rows s) extent_of, own_length spans rows s (stand_of spans rows bump ss p.parts s i).1))) in
       rw (clear_gathered o.left o.right o.is) (simp length-append (omega (arith, b)))
@@ -249,8 +246,8 @@ module _ (path : ℕ → ℕ) (spans rows : List (List ℕ)) (bump : ℕ) (ss : 
 
 -- ---- fresh: a slot u that was not live comes in between ls and rs
 
-module _ (path path' : ℕ → ℕ) (spans rows : List (List ℕ)) (bump : ℕ) (ls rs : List ℕ) (u : ℕ) (p : Placed spans rows bump (ls ++ rs)) (h : u < 256) (new : In u (ls ++ rs) → ⊥) where
-  abbrev opened : List (List ℕ)
+module _ (path path' : ℕ → ℕ) (spans : List Span) (rows : List (List ℕ)) (bump : ℕ) (ls rs : List ℕ) (u : ℕ) (p : Placed spans rows bump (ls ++ rs)) (h : u < 256) (new : In u (ls ++ rs) → ⊥) where
+  abbrev opened : List Span
   opened = set spans u vacant
 
   open_span : span_at opened u ≡ vacant
@@ -292,7 +289,7 @@ module _ (path path' : ℕ → ℕ) (spans rows : List (List ℕ)) (bump : ℕ) 
 
 -- ---- a slot s between ls and rs is live no more
 
-module _ (path : ℕ → ℕ) (spans rows : List (List ℕ)) (bump : ℕ) (ls rs : List ℕ) (s : ℕ) where
+module _ (path : ℕ → ℕ) (spans : List Span) (rows : List (List ℕ)) (bump : ℕ) (ls rs : List ℕ) (s : ℕ) where
   pub gather_close : Owned path spans rows (ls ++ (s ∷ rs)) → Rising path (ls ++ (s ∷ rs)) → gather spans rows (ls ++ rs) ≡ others (path s) (gather spans rows (ls ++ (s ∷ rs)))
   gather_close w up = gather_append spans rows ls rs ∙ sym (middle_others path spans rows s ls rs w up)
 
@@ -316,21 +313,21 @@ module _ (path : ℕ → ℕ) (spans rows : List (List ℕ)) (bump : ℕ) (ls rs
 
 -- ---- the start: one file with no rows
 
-pub none_placed : (spans rows : List (List ℕ)) → length spans ≡ 256 → length rows ≡ capacity → Placed spans rows 0 []
+pub none_placed : (spans : List Span) (rows : List (List ℕ)) → length spans ≡ 256 → length rows ≡ capacity → Placed spans rows 0 []
 none_placed spans rows hs hr = record {
   parts = record { slots = hs; arena = hr; top = omega arith; part = λ s i. absurd i; apart = λ s t i. absurd i; distinct = tt };
   few = omega arith;
 }
 
-module _ (path : ℕ → ℕ) (spans rows : List (List ℕ)) (s : ℕ) (hs : length spans ≡ 256) (hr : length rows ≡ capacity) (h : s < 256) (e : span_at spans s ≡ vacant) where
+module _ (path : ℕ → ℕ) (spans : List Span) (rows : List (List ℕ)) (s : ℕ) (hs : length spans ≡ 256) (hr : length rows ≡ capacity) (h : s < 256) (e : span_at spans s ≡ vacant) where
   is_vacant : spans ≡ set spans s vacant
-  is_vacant = sym (set-get_or spans s []) ∙ ap (set spans s) e
+  is_vacant = sym (set-get_or spans s vacant) ∙ ap (set spans s) e
 
   pub start_placed : Placed spans rows 0 (s ∷ [])
-  start_placed = subst (λ (x : List (List ℕ)). Placed x rows 0 (s ∷ [])) (sym is_vacant) (open_placed path path spans rows 0 [] [] s (none_placed spans rows hs hr) h (λ i. i))
+  start_placed = subst (λ (x : List Span). Placed x rows 0 (s ∷ [])) (sym is_vacant) (open_placed path path spans rows 0 [] [] s (none_placed spans rows hs hr) h (λ i. i))
 
   pub start_owned : Owned path spans rows (s ∷ [])
-  start_owned = subst (λ (x : List (List ℕ)). Owned path x rows (s ∷ [])) (sym is_vacant)
+  start_owned = subst (λ (x : List Span). Owned path x rows (s ∷ [])) (sym is_vacant)
       (open_owned path path spans rows 0 [] [] s (none_placed spans rows hs hr) h (λ i. i) (record { own = λ t i. absurd i }) (λ t i. refl))
 
   pub start_gather : gather spans rows (s ∷ []) ≡ []

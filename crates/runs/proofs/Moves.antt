@@ -2,7 +2,7 @@
 use Prim.Native.Nat.{ℕ, ◌+◌, ◌≤◌, ◌<◌}
 use mathlib.Core.Path.{◌≡◌, refl, sym, ap, ap₂, ◌∙◌}
 use mathlib.Core.Logic.{◌⊎◌, inl, inr, ⊎_elim, ◌≢◌}
-use mathlib.Core.List.{List, [], ◌∷◌, ◌++◌, append_assoc, map}
+use mathlib.Core.List.{List, ◌∷◌, ◌++◌, append_assoc, map}
 use native.Mathlib.Omega.{arith}
 use lib.ListN.{length, take, drop, set, length-map, length-drop, length-set}
 use lib.Seq.{take_at, drop_at, take-take, length-take-le, get_or-set_same, get_or-set_other}
@@ -13,14 +13,15 @@ use Rattle.base.proofs.Lists.{in_left, in_split}
 use Rattle.extent.specs.Rows.{extent_of, row_of, runs, Layable}
 use Rattle.extent.proofs.Rows.{runs_length}
 use Rattle.extent.proofs.Laws.{lay_adds}
-use Rattle.runs.specs.Runs.{capacity, first_of, many_of, room_of, span_at, rows_of, gather_rows, total, Distinct, Part, Apart, Parts, Placed, put, Open, laid_over, spans_laid, rows_laid, Stand, wanted, moved_to, Movable, closed, Roomed}
+use Rattle.runs.specs.declared.Span.{Span}
+use Rattle.runs.specs.Runs.{capacity, vacant, with, span_at, rows_of, gather_rows, total, Distinct, Part, Apart, Parts, Placed, put, Open, laid_over, spans_laid, rows_laid, Stand, wanted, moved_to, Movable, closed, Roomed}
 use Rattle.runs.proofs.Lists.{put_length, put_own, put_apart, put_back}
 use Rattle.runs.proofs.Slots.{Spot, spot_of, in_here, distinct_right, rows_append, own_length, rows_length, gather_length, gather_same, total_append, closed_span, closed_length, closed_at}
 
 -- ---- a run laid over the rows of a part that is lent: m rows from f on, with room for k
 
-module _ (spans rows : List (List ℕ)) (s : ℕ) (v : List ℕ) (o : Open spans rows s v) (f m k : ℕ)
-    (hf : f ≡ first_of (span_at spans s)) (hm : m ≡ many_of (span_at spans s)) (hk : k ≡ room_of (span_at spans s)) where
+module _ (spans : List Span) (rows : List (List ℕ)) (s : ℕ) (v : List ℕ) (o : Open spans rows s v) (f m k : ℕ)
+    (hf : f ≡ (span_at spans s).first) (hm : m ≡ (span_at spans s).many) (hk : k ≡ (span_at spans s).room) where
   lent_rows : take m (take k (drop f rows)) ≡ rows_of spans rows s
   lent_rows = let l : m ≤ k = omega (arith, o.room) in rw (take-take m k (drop f rows) l, hf, hm)
 
@@ -37,7 +38,7 @@ module _ (spans rows : List (List ℕ)) (s : ℕ) (v : List ℕ) (o : Open spans
     pub lent_few : r ≤ k
     lent_few = omega (arith, o.room, lent_length, lay_adds _ _ (extent_of v) (runs (take k (drop f rows)) m) lent_open.within.lined, runs_length (take k (drop f rows)) m (omega (arith, o.room, lent_length)), e)
 
-    pub lent_span : set spans s (first_of (span_at spans s) ∷ (r ∷ (room_of (span_at spans s) ∷ []))) ≡ spans_laid spans rows s v
+    pub lent_span : set spans s (with (span_at spans s) r) ≡ spans_laid spans rows s v
     lent_span = rw laid_length
 
     pub lent_back : (left : List (List ℕ)) → left ≡ map row_of (lay (extent_of v) (runs (take k (drop f rows)) m)) ++ drop r (take k (drop f rows))
@@ -49,37 +50,37 @@ module _ (spans rows : List (List ℕ)) (s : ℕ) (v : List ℕ) (o : Open spans
 
 -- ---- one span set anew, and rows put where no other part stands
 
-pub stand_of : (spans rows : List (List ℕ)) (bump : ℕ) (ss : List ℕ) → Parts spans rows bump ss → Stand spans rows ss
+pub stand_of : (spans : List Span) (rows : List (List ℕ)) (bump : ℕ) (ss : List ℕ) → Parts spans rows bump ss → Stand spans rows ss
 stand_of spans rows bump ss p s i = let q : Part spans bump s = p.part s i in (omega (arith, p.slots, q.slot), omega (arith, p.arena, p.top, q.many, q.room))
 
 -- the parts of the slots but s
-pub record Rest (spans : List (List ℕ)) (bump : ℕ) (ss : List ℕ) (s : ℕ) : Type 0 where
+pub record Rest (spans : List Span) (bump : ℕ) (ss : List ℕ) (s : ℕ) : Type 0 where
   pub slots : length spans ≡ 256
   pub part : (t : ℕ) → In t ss → t ≢ s → Part spans bump t
   pub apart : (t u : ℕ) → In t ss → In u ss → t ≢ s → u ≢ s → t ≢ u → Apart (span_at spans t) (span_at spans u)
   pub distinct : Distinct ss
 
-pub rest_of : (spans rows : List (List ℕ)) (bump : ℕ) (ss : List ℕ) (s : ℕ) → Parts spans rows bump ss → Rest spans bump ss s
+pub rest_of : (spans : List Span) (rows : List (List ℕ)) (bump : ℕ) (ss : List ℕ) (s : ℕ) → Parts spans rows bump ss → Rest spans bump ss s
 rest_of spans rows bump ss s p = record { slots = p.slots; part = λ t i n. p.part t i; apart = λ t u i j m n. p.apart t u i j; distinct = p.distinct }
 
-pub apart_swap : (a b : List ℕ) → Apart a b → Apart b a
+pub apart_swap : (a b : Span) → Apart a b → Apart b a
 apart_swap a b o = ⊎_elim (λ l. inr l) (λ l. inl l) o
 
-module _ (spans : List (List ℕ)) (s : ℕ) (q : List ℕ) where
+module _ (spans : List Span) (s : ℕ) (q : Span) where
   pub own_span : s < length spans → span_at (set spans s q) s ≡ q
-  own_span h = get_or-set_same spans s q [] h
+  own_span h = get_or-set_same spans s q vacant h
 
   pub other_span : (t : ℕ) → t ≢ s → span_at (set spans s q) t ≡ span_at spans t
-  other_span t n = get_or-set_other spans s t q [] n
+  other_span t n = get_or-set_other spans s t q vacant n
 
   -- rows put at a place that is apart from the rows of t
   pub other_rows : (rows : List (List ℕ)) (at : ℕ) (ys : List (List ℕ)) (t : ℕ) → t ≢ s → at + length ys ≤ length rows
-      → (first_of (span_at spans t) + many_of (span_at spans t) ≤ at) ⊎ (at + length ys ≤ first_of (span_at spans t))
+      → ((span_at spans t).first + (span_at spans t).many ≤ at) ⊎ (at + length ys ≤ (span_at spans t).first)
       → rows_of (set spans s q) (put rows at ys) t ≡ rows_of spans rows t
-  other_rows rows at ys t n h o = rw (other_span t n) (put_apart rows at ys (first_of (span_at spans t)) (many_of (span_at spans t)) h o)
+  other_rows rows at ys t n h o = rw (other_span t n) (put_apart rows at ys (span_at spans t).first (span_at spans t).many h o)
 
   module _ (bump : ℕ) (ss : List ℕ) (r : Rest spans bump ss s) (rows' : List (List ℕ)) (bump' : ℕ) (hs : s < 256) (hr : length rows' ≡ capacity) (hb : bump ≤ bump')
-      (ht : bump' ≤ capacity) (hm : many_of q ≤ room_of q) (hq : first_of q + room_of q ≤ bump') (ha : (t : ℕ) → In t ss → t ≢ s → Apart q (span_at spans t)) where
+      (ht : bump' ≤ capacity) (hm : q.many ≤ q.room) (hq : q.first + q.room ≤ bump') (ha : (t : ℕ) → In t ss → t ≢ s → Apart q (span_at spans t)) where
     mine : span_at (set spans s q) s ≡ q
     mine = own_span (omega (arith, r.slots))
 
@@ -106,14 +107,14 @@ module _ (spans : List (List ℕ)) (s : ℕ) (q : List ℕ) where
 
 -- ---- a part moved to bump
 
-module _ (spans rows : List (List ℕ)) (bump : ℕ) (ss : List ℕ) (s : ℕ) (p : Placed spans rows bump ss) (i : In s ss) (h : bump + wanted (span_at spans s) ≤ capacity) where
-  abbrev span : List ℕ
+module _ (spans : List Span) (rows : List (List ℕ)) (bump : ℕ) (ss : List ℕ) (s : ℕ) (p : Placed spans rows bump ss) (i : In s ss) (h : bump + wanted (span_at spans s) ≤ capacity) where
+  abbrev span : Span
   span = span_at spans s
 
   abbrev rows' : List (List ℕ)
   rows' = put rows bump (rows_of spans rows s)
 
-  many_rows : length (rows_of spans rows s) ≡ many_of span
+  many_rows : length (rows_of spans rows s) ≡ span.many
   many_rows = own_length spans rows s (stand_of spans rows bump ss p.parts s i).1
 
   pub movable : Movable spans rows bump s
@@ -147,16 +148,16 @@ module _ (spans rows : List (List ℕ)) (bump : ℕ) (ss : List ℕ) (s : ℕ) (
     room = rw own_moved (omega arith);
   }
 
-  pub moved_roomed : (spans₁ rows₁ : List (List ℕ)) (r : ℕ) → (r ≡ bump + wanted span) × (spans₁ ≡ set spans s (moved_to bump span)) × (rows₁ ≡ rows') → Roomed spans rows spans₁ rows₁ r ss s
+  pub moved_roomed : (spans₁ : List Span) (rows₁ : List (List ℕ)) (r : ℕ) → (r ≡ bump + wanted span) × (spans₁ ≡ set spans s (moved_to bump span)) × (rows₁ ≡ rows') → Roomed spans rows spans₁ rows₁ r ss s
   moved_roomed spans₁ rows₁ r e = rw (e.0, e.1, e.2) moved_is
 
 -- ---- all parts packed
 
-module _ (spans rows : List (List ℕ)) (bump : ℕ) (ss : List ℕ) (p : Placed spans rows bump ss) where
+module _ (spans : List Span) (rows : List (List ℕ)) (bump : ℕ) (ss : List ℕ) (p : Placed spans rows bump ss) where
   abbrev rows_packed : List (List ℕ)
   rows_packed = put rows 0 (gather_rows spans rows ss)
 
-  abbrev spans_packed : List (List ℕ)
+  abbrev spans_packed : List Span
   spans_packed = closed spans spans ss 0
 
   stands : Stand spans rows ss
@@ -179,10 +180,10 @@ module _ (spans rows : List (List ℕ)) (bump : ℕ) (ss : List ℕ) (p : Placed
       let l : length (gather_rows spans rows ls) ≡ total spans ls = rows_length spans rows ls (λ u j. stands u (rw e (in_left u ls (t ∷ rs) j))) in
       let rest : List (List ℕ) = drop (0 + length (gather_rows spans rows ss)) rows in
       rw (packed_span ls rs t e)
-      (ap (λ (xs : List (List ℕ)). take (many_of (span_at spans t)) (drop (total spans ls) (xs ++ rest))) g
+      (ap (λ (xs : List (List ℕ)). take (span_at spans t).many (drop (total spans ls) (xs ++ rest))) g
       ∙ rw (append_assoc (gather_rows spans rows ls) (rows_of spans rows t ++ gather_rows spans rows rs) rest, append_assoc (rows_of spans rows t) (gather_rows spans rows rs) rest)
-      (ap (take (many_of (span_at spans t))) (drop_at (gather_rows spans rows ls) (rows_of spans rows t ++ (gather_rows spans rows rs ++ rest)) (total spans ls) l)
-      ∙ take_at (rows_of spans rows t) (gather_rows spans rows rs ++ rest) (many_of (span_at spans t)) (own_length spans rows t (stands t i).1)))
+      (ap (take (span_at spans t).many) (drop_at (gather_rows spans rows ls) (rows_of spans rows t ++ (gather_rows spans rows rs ++ rest)) (total spans ls) l)
+      ∙ take_at (rows_of spans rows t) (gather_rows spans rows rs ++ rest) (span_at spans t).many (own_length spans rows t (stands t i).1)))
 
   packed_same : (t : ℕ) → In t ss → rows_of spans_packed rows_packed t ≡ rows_of spans rows t
   packed_same t i = let o : Spot t ss = spot_of t ss i in packed_rows o.left o.right t o.is
@@ -198,7 +199,7 @@ module _ (spans rows : List (List ℕ)) (bump : ℕ) (ss : List ℕ) (p : Placed
       }
 
   -- of two slots the one that comes first ends where or before the other begins
-  packed_order : (ls ms rs : List ℕ) (t u : ℕ) → ss ≡ ls ++ (t ∷ (ms ++ (u ∷ rs))) → first_of (span_at spans_packed t) + room_of (span_at spans_packed t) ≤ first_of (span_at spans_packed u)
+  packed_order : (ls ms rs : List ℕ) (t u : ℕ) → ss ≡ ls ++ (t ∷ (ms ++ (u ∷ rs))) → (span_at spans_packed t).first + (span_at spans_packed t).room ≤ (span_at spans_packed u).first
   packed_order ls ms rs t u e =
       let f : ss ≡ (ls ++ (t ∷ ms)) ++ (u ∷ rs) = e ∙ sym (append_assoc ls (t ∷ ms) (u ∷ rs)) in
       rw (packed_span ls (ms ++ (u ∷ rs)) t e, packed_span (ls ++ (t ∷ ms)) rs u f) (omega (arith, total_append spans ls (t ∷ ms)))
@@ -239,7 +240,7 @@ module _ (spans rows : List (List ℕ)) (bump : ℕ) (ss : List ℕ) (p : Placed
       let z : total spans ss ≡ total spans (o.left ++ (s ∷ o.right)) = ap (total spans) o.is in
       rw (packed_span o.left o.right s o.is) (omega (arith, few_rows, z, total_append spans o.left (s ∷ o.right)))
 
-  module _ (s : ℕ) (i : In s ss) (spans₁ rows₁ : List (List ℕ)) (b : ℕ) (e : (b ≡ total spans ss) × (spans₁ ≡ spans_packed) × (rows₁ ≡ rows_packed)) where
+  module _ (s : ℕ) (i : In s ss) (spans₁ : List Span) (rows₁ : List (List ℕ)) (b : ℕ) (e : (b ≡ total spans ss) × (spans₁ ≡ spans_packed) × (rows₁ ≡ rows_packed)) where
     packed_is : Placed spans₁ rows₁ b ss
     packed_is = rw (e.0, e.1, e.2) packed_placed
 
@@ -252,7 +253,7 @@ module _ (spans rows : List (List ℕ)) (bump : ℕ) (ss : List ℕ) (p : Placed
     pub packed_movable : Movable spans₁ rows₁ b s
     packed_movable = movable spans₁ rows₁ b ss s packed_is i packed_room
 
-    pub packed_roomed : (spans₂ rows₂ : List (List ℕ)) (r : ℕ) → (r ≡ b + wanted (span_at spans₁ s)) × (spans₂ ≡ set spans₁ s (moved_to b (span_at spans₁ s))) × (rows₂ ≡ put rows₁ b (rows_of spans₁ rows₁ s))
+    pub packed_roomed : (spans₂ : List Span) (rows₂ : List (List ℕ)) (r : ℕ) → (r ≡ b + wanted (span_at spans₁ s)) × (spans₂ ≡ set spans₁ s (moved_to b (span_at spans₁ s))) × (rows₂ ≡ put rows₁ b (rows_of spans₁ rows₁ s))
         → Roomed spans rows spans₂ rows₂ r ss s
     packed_roomed spans₂ rows₂ r f =
         let m : Roomed spans₁ rows₁ spans₂ rows₂ r ss s = moved_roomed spans₁ rows₁ b ss s packed_is i packed_room spans₂ rows₂ r f in
@@ -260,6 +261,6 @@ module _ (spans rows : List (List ℕ)) (bump : ℕ) (ss : List ℕ) (p : Placed
 
 -- ---- a part that has room already
 
-pub roomed_already : (spans rows : List (List ℕ)) (bump : ℕ) (ss : List ℕ) (s : ℕ) → Placed spans rows bump ss → many_of (span_at spans s) + 2 ≤ room_of (span_at spans s)
+pub roomed_already : (spans : List Span) (rows : List (List ℕ)) (bump : ℕ) (ss : List ℕ) (s : ℕ) → Placed spans rows bump ss → (span_at spans s).many + 2 ≤ (span_at spans s).room
     → Roomed spans rows spans rows bump ss s
 roomed_already spans rows bump ss s p h = record { placed = p; kept = record { same = λ t i. refl }; room = h }

@@ -5,14 +5,15 @@ use mathlib.Core.Logic.{◌⊎◌, inl, inr, ⊎_elim}
 use mathlib.Core.List.{List, [], ◌∷◌, ◌++◌, append_assoc, append-nil, map, map-append}
 use native.Mathlib.Omega.{arith}
 use native.Mathlib.Numerals.{add-one}
-use lib.ListN.{length, take, drop, get_or, set, length-append, length-map, length-drop, length-set}
-use lib.Seq.{take-suc, length-take-le, get_or-set_same, get_or-set_other}
+use lib.ListN.{length, take, drop, get_or, set, length-append, length-map, length-drop, length-set, length-take}
+use lib.Seq.{take-suc, length-take-le, get_or-take, get_or-set_same, get_or-set_other}
 use Rattle.meaning.specs.declared.Extent.{Extent}
 use Rattle.base.specs.Member.{All, In}
 use Rattle.base.proofs.Lists.{in_left, in_right, in_split, all_in, all_append}
 use Rattle.extent.specs.Rows.{extent_of}
-use Rattle.runs.specs.Runs.{first_of, many_of, span_at, rows_of, runs_of, gather, gather_rows, total, Distinct, Rising, Stand, closed, Live, put}
-use Rattle.runs.proofs.Lists.{first_split, put_put}
+use Rattle.runs.specs.declared.Span.{Span}
+use Rattle.runs.specs.Runs.{vacant, full, span_at, rows_of, runs_of, gather, gather_rows, total, Distinct, Rising, Stand, closed, Live, put}
+use Rattle.runs.proofs.Lists.{first_split, put_put, put_written}
 
 -- ---- a slot in its place
 
@@ -72,7 +73,7 @@ module _ (path : ℕ → ℕ) (s : ℕ) where
 
 -- ---- what is gathered
 
-module _ (spans rows : List (List ℕ)) where
+module _ (spans : List Span) (rows : List (List ℕ)) where
   pub gather_append : (ls rs : List ℕ) → gather spans rows (ls ++ rs) ≡ gather spans rows ls ++ gather spans rows rs
   gather_append [] rs = refl
   gather_append (a ∷ ls) rs = rw (gather_append ls rs) (sym (append_assoc (runs_of spans rows a) (gather spans rows ls) (gather spans rows rs)))
@@ -89,8 +90,8 @@ module _ (spans rows : List (List ℕ)) where
   gather_all P [] f = tt
   gather_all P (s ∷ ss) f = all_append P (runs_of spans rows s) (gather spans rows ss) (f s (inl refl)) (gather_all P ss (λ t i. f t (inr i)))
 
-  pub own_length : (s : ℕ) → first_of (span_at spans s) + many_of (span_at spans s) ≤ length rows → length (rows_of spans rows s) ≡ many_of (span_at spans s)
-  own_length s h = length-take-le (many_of (span_at spans s)) (drop (first_of (span_at spans s)) rows) (omega (arith, length-drop (first_of (span_at spans s)) rows))
+  pub own_length : (s : ℕ) → (span_at spans s).first + (span_at spans s).many ≤ length rows → length (rows_of spans rows s) ≡ (span_at spans s).many
+  own_length s h = length-take-le (span_at spans s).many (drop (span_at spans s).first rows) (omega (arith, length-drop (span_at spans s).first rows))
 
   pub rows_length : (ss : List ℕ) → Stand spans rows ss → length (gather_rows spans rows ss) ≡ total spans ss
   rows_length [] f = refl
@@ -100,12 +101,12 @@ module _ (spans rows : List (List ℕ)) where
   pub gather_length : (ss : List ℕ) → Stand spans rows ss → length (gather spans rows ss) ≡ total spans ss
   gather_length ss f = ap length (sym (gather_rows_lem ss)) ∙ length-map (gather_rows spans rows ss) extent_of ∙ rows_length ss f
 
-pub total_append : (spans : List (List ℕ)) (ls rs : List ℕ) → total spans (ls ++ rs) ≡ total spans ls + total spans rs
+pub total_append : (spans : List Span) (ls rs : List ℕ) → total spans (ls ++ rs) ≡ total spans ls + total spans rs
 total_append spans [] rs = omega arith
 total_append spans (a ∷ ls) rs = omega (arith, total_append spans ls rs)
 
 -- slots with the same rows
-pub gather_same : (spans rows spans' rows' : List (List ℕ)) (ss : List ℕ) → ((s : ℕ) → In s ss → rows_of spans' rows' s ≡ rows_of spans rows s)
+pub gather_same : (spans : List Span) (rows : List (List ℕ)) (spans' : List Span) (rows' : List (List ℕ)) (ss : List ℕ) → ((s : ℕ) → In s ss → rows_of spans' rows' s ≡ rows_of spans rows s)
     → gather spans' rows' ss ≡ gather spans rows ss
 gather_same spans rows spans' rows' [] f = refl
 gather_same spans rows spans' rows' (s ∷ ss) f =
@@ -113,43 +114,49 @@ gather_same spans rows spans' rows' (s ∷ ss) f =
 
 -- ---- the spans of parts one after another
 
-module _ (old : List (List ℕ)) where
-  abbrev pub closed_span : ℕ → ℕ → List ℕ
-  closed_span at s = at ∷ (many_of (span_at old s) ∷ (many_of (span_at old s) ∷ []))
+module _ (old : List Span) where
+  abbrev pub closed_span : ℕ → ℕ → Span
+  closed_span at s = full at (span_at old s).many
 
-  pub closed_length : (spans : List (List ℕ)) (ss : List ℕ) (at : ℕ) → length (closed old spans ss at) ≡ length spans
+  pub closed_length : (spans : List Span) (ss : List ℕ) (at : ℕ) → length (closed old spans ss at) ≡ length spans
   closed_length spans [] at = refl
-  closed_length spans (s ∷ ss) at = closed_length (set spans s (closed_span at s)) ss (at + many_of (span_at old s)) ∙ length-set spans s (closed_span at s)
+  closed_length spans (s ∷ ss) at = closed_length (set spans s (closed_span at s)) ss (at + (span_at old s).many) ∙ length-set spans s (closed_span at s)
 
-  pub closed_other : (spans : List (List ℕ)) (ss : List ℕ) (at t : ℕ) → (In t ss → ⊥) → span_at (closed old spans ss at) t ≡ span_at spans t
+  pub closed_other : (spans : List Span) (ss : List ℕ) (at t : ℕ) → (In t ss → ⊥) → span_at (closed old spans ss at) t ≡ span_at spans t
   closed_other spans [] at t n = refl
   closed_other spans (s ∷ ss) at t n =
-      closed_other (set spans s (closed_span at s)) ss (at + many_of (span_at old s)) t (λ i. n (inr i)) ∙ get_or-set_other spans s t (closed_span at s) [] (λ (e : t ≡ s). n (inl e))
+      closed_other (set spans s (closed_span at s)) ss (at + (span_at old s).many) t (λ i. n (inr i)) ∙ get_or-set_other spans s t (closed_span at s) vacant (λ (e : t ≡ s). n (inl e))
 
-  pub closed_at : (spans : List (List ℕ)) (ls rs : List ℕ) (at t : ℕ) → t < length spans → (In t rs → ⊥)
+  pub closed_at : (spans : List Span) (ls rs : List ℕ) (at t : ℕ) → t < length spans → (In t rs → ⊥)
       → span_at (closed old spans (ls ++ (t ∷ rs)) at) t ≡ closed_span (at + total old ls) t
   closed_at spans [] rs at t h n =
       let e : at + 0 ≡ at = omega arith in
-      closed_other (set spans t (closed_span at t)) rs (at + many_of (span_at old t)) t n ∙ get_or-set_same spans t (closed_span at t) [] h ∙ rw e
+      closed_other (set spans t (closed_span at t)) rs (at + (span_at old t).many) t n ∙ get_or-set_same spans t (closed_span at t) vacant h ∙ rw e
   closed_at spans (a ∷ ls) rs at t h n =
-      let e : at + many_of (span_at old a) + total old ls ≡ at + (many_of (span_at old a) + total old ls) = omega arith in
-      closed_at (set spans a (closed_span at a)) ls rs (at + many_of (span_at old a)) t (omega (arith, length-set spans a (closed_span at a))) n ∙ rw e
+      let e : at + (span_at old a).many + total old ls ≡ at + ((span_at old a).many + total old ls) = omega arith in
+      closed_at (set spans a (closed_span at a)) ls rs (at + (span_at old a).many) t (omega (arith, length-set spans a (closed_span at a))) n ∙ rw e
 
   -- one slot more
-  pub closed_snoc : (spans : List (List ℕ)) (ls : List ℕ) (at t : ℕ) → closed old spans (ls ++ (t ∷ [])) at ≡ set (closed old spans ls at) t (closed_span (at + total old ls) t)
+  pub closed_snoc : (spans : List Span) (ls : List ℕ) (at t : ℕ) → closed old spans (ls ++ (t ∷ [])) at ≡ set (closed old spans ls at) t (closed_span (at + total old ls) t)
   closed_snoc spans [] at t = let e : at + 0 ≡ at = omega arith in rw e
   closed_snoc spans (a ∷ ls) at t =
-      let e : at + many_of (span_at old a) + total old ls ≡ at + (many_of (span_at old a) + total old ls) = omega arith in
-      closed_snoc (set spans a (closed_span at a)) ls (at + many_of (span_at old a)) t ∙ rw e
+      let e : at + (span_at old a).many + total old ls ≡ at + ((span_at old a).many + total old ls) = omega arith in
+      closed_snoc (set spans a (closed_span at a)) ls (at + (span_at old a).many) t ∙ rw e
 
 -- ---- the next of the first n slots of a table
 
-module _ (slots : List ℕ) (n : ℕ) (live : Live slots n) (k s : ℕ) (h : k < n) (e : s ≡ get_or slots k 0) where
+module _ (slots : List ℕ) (n : ℕ) (live : Live slots n) (k s : ℕ) (h : k < length (take n slots)) (e : s ≡ get_or (take n slots) k 0) where
+  low : k < n
+  low = omega (arith, length-take n slots)
+
+  own : s ≡ get_or slots k 0
+  own = e ∙ get_or-take n slots k 0 low
+
   next_split : take n slots ≡ take k slots ++ (s ∷ drop (k + 1) (take n slots))
-  next_split = rw e (first_split slots n k 0 h (omega (arith, live.all, live.few)))
+  next_split = rw own (first_split slots n k 0 low (omega (arith, live.all, live.few)))
 
   pub next_taken : take (k + 1) slots ≡ take k slots ++ (s ∷ [])
-  next_taken = rw (e, add-one k) (take-suc slots k 0 (omega (arith, live.all, live.few)))
+  next_taken = rw (own, add-one k) (take-suc slots k 0 (omega (arith, low, live.all, live.few)))
 
   pub slot_in : In s (take n slots)
   slot_in = rw next_split (in_here s (take k slots) (drop (k + 1) (take n slots)))
@@ -157,11 +164,11 @@ module _ (slots : List ℕ) (n : ℕ) (live : Live slots n) (k s : ℕ) (h : k <
   next_new : Distinct (take n slots) → In s (take k slots) → ⊥
   next_new d = distinct_left s (take k slots) (drop (k + 1) (take n slots)) (rw next_split at d)
 
-  module _ (old : List (List ℕ)) where
-    pub next_total : total old (take (k + 1) slots) ≡ total old (take k slots) + many_of (span_at old s)
+  module _ (old : List Span) where
+    pub next_total : total old (take (k + 1) slots) ≡ total old (take k slots) + (span_at old s).many
     next_total = rw next_taken (omega (arith, total_append old (take k slots) (s ∷ [])))
 
-    pub next_few : total old (take k slots) + many_of (span_at old s) ≤ total old (take n slots)
+    pub next_few : total old (take k slots) + (span_at old s).many ≤ total old (take n slots)
     next_few = rw next_split (omega (arith, total_append old (take k slots) (s ∷ drop (k + 1) (take n slots))))
 
     pub next_old : Distinct (take n slots) → span_at (closed old old (take k slots) 0) s ≡ span_at old s
@@ -170,24 +177,27 @@ module _ (slots : List ℕ) (n : ℕ) (live : Live slots n) (k s : ℕ) (h : k <
     pub next_closed : closed old old (take (k + 1) slots) 0 ≡ set (closed old old (take k slots) 0) s (closed_span old (total old (take k slots)) s)
     next_closed = rw next_taken (closed_snoc old old (take k slots) 0 s ∙ ap (λ (a : ℕ). set (closed old old (take k slots) 0) s (closed_span old a s)) (omega arith))
 
-    module _ (cur : List (List ℕ)) (at : ℕ) (d : Distinct (take n slots)) (c : cur ≡ closed old old (take k slots) 0) (a : at ≡ total old (take k slots)) where
-      same_many : many_of (span_at cur s) ≡ many_of (span_at old s)
+    module _ (cur : List Span) (at : ℕ) (d : Distinct (take n slots)) (c : cur ≡ closed old old (take k slots) 0) (a : at ≡ total old (take k slots)) where
+      same_many : (span_at cur s).many ≡ (span_at old s).many
       same_many = rw (c, next_old d)
 
-      pub turn_total : at + many_of (span_at cur s) ≡ total old (take (k + 1) slots)
+      pub turn_total : at + (span_at cur s).many ≡ total old (take (k + 1) slots)
       turn_total = omega (arith, same_many, next_total)
 
-      pub turn_few : at + many_of (span_at cur s) ≤ total old (take n slots)
+      pub turn_few : at + (span_at cur s).many ≤ total old (take n slots)
       turn_few = omega (arith, same_many, next_few)
 
-      pub turn_closed : set cur s (at ∷ (many_of (span_at cur s) ∷ (many_of (span_at cur s) ∷ []))) ≡ closed old old (take (k + 1) slots) 0
+      pub turn_closed : set cur s (full at (span_at cur s).many) ≡ closed old old (take (k + 1) slots) 0
       turn_closed = rw (same_many, c, a) (sym next_closed)
 
-    -- the rows of the next slot after those of the slots passed
-    pub turn_rows : (rows out : List (List ℕ)) (at f m : ℕ) → Stand old rows (take n slots) → at ≡ total old (take k slots) → f ≡ first_of (span_at old s) → m ≡ many_of (span_at old s)
-        → put (put out 0 (gather_rows old rows (take k slots))) at (take m (drop f rows)) ≡ put out 0 (gather_rows old rows (take (k + 1) slots))
-    turn_rows rows out at f m z a hf hm =
+    -- the rows of the next slot after those of the slots passed: a part of out is lent, and comes back as ys
+    pub turn_rows : (rows out cur ys : List (List ℕ)) (at k' j : ℕ) → Stand old rows (take n slots) → total old (take n slots) ≤ length out → at ≡ total old (take k slots)
+        → cur ≡ put out 0 (gather_rows old rows (take k slots)) → k' ≡ (span_at old s).many → j ≡ (span_at old s).many → ys ≡ take j (drop (span_at old s).first rows)
+        → take at cur ++ (ys ++ drop k' (drop at cur)) ≡ put out 0 (gather_rows old rows (take (k + 1) slots))
+    turn_rows rows out cur ys at k' j z o a b hk hj y =
         let l : length (gather_rows old rows (take k slots)) ≡ total old (take k slots) = rows_length old rows (take k slots) (λ t i. z t (rw next_split (in_left t (take k slots) (s ∷ drop (k + 1) (take n slots)) i))) in
         let g : gather_rows old rows (take (k + 1) slots) ≡ gather_rows old rows (take k slots) ++ rows_of old rows s =
         ap (gather_rows old rows) next_taken ∙ rows_append old rows (take k slots) (s ∷ []) ∙ rw (append-nil (rows_of old rows s)) in
-        rw (hf, hm, g) (put_put out 0 (gather_rows old rows (take k slots)) (rows_of old rows s) at (omega arith) (omega arith))
+        rw (g, b, y, hk, hj)
+        (put_written (put out 0 (gather_rows old rows (take k slots))) (rows_of old rows s) at (span_at old s).many (own_length old rows s (z s slot_in).1)
+        ∙ put_put out 0 (gather_rows old rows (take k slots)) (rows_of old rows s) at (omega arith) (omega arith))

@@ -1,26 +1,24 @@
 -- Demand 3 of the very list that a settle answered: r is its answer, l what was lent, l' what it left.
 use mathlib.Core.Path.{◌≡◌, sym, ap, subst, ◌∙◌}
-use lib.ListN.{take}
+use Rattle.std.specs.Prelude.{Result, Ok}
 use Rattle.meaning.specs.declared.Geometry.{Geometry}
+use Rattle.meaning.specs.declared.Refusal.{Refusal}
 use Rattle.meaning.specs.Answer.{Answer, ok}
 use Rattle.meaning.specs.Flash.{Lent}
 use Rattle.meaning.specs.Mount.{Mounted, mount_of}
-use Rattle.meaning.specs.Services.{do_steps, leaves, settle, settle_steps}
+use Rattle.meaning.specs.Services.{do_steps, leaves, settle}
 use Rattle.meaning.specs.Cut as meaning
 use Rattle.meaning.specs.Cut.{Cut, Shows}
-use Rattle.replay.specs.declared.Said.{Said}
-use Rattle.replay.specs.declared.Said.TheVariants.{Whole}
-use Rattle.replay.specs.Replay.{answer_by}
 use Rattle.demand.proofs.Demand.{settle_cut, settle_whole, settle_runs}
-use Rattle.settle.specs.declared.Settled.{Settled}
-use Rattle.settle.specs.Settled.{answer}
+use Rattle.used.specs.declared.Erase.{Erase}
+use Rattle.settle.specs.Settled.{answer, steps_of}
 
-module _ (g : Geometry) (l : Lent) (r : Settled) (e : answer r ≡ settle g l) (w : r.said ≡ Whole) where
-  listed : settle g l ≡ ok (settle_steps (take r.count r.blocks))
-  listed = sym e ∙ ap (λ (y : Said). answer_by y (settle_steps (take r.count r.blocks))) w
+module _ (g : Geometry) (l : Lent) (r : Result Erase Refusal) (e : answer r ≡ settle g l) (list : Erase) (w : r ≡ Ok list) where
+  listed : settle g l ≡ ok (steps_of list)
+  listed = sym e ∙ ap answer w
 
   -- the power goes at any moment of the answered list
-  pub answered_cut : (a : Mounted) → mount_of g l ≡ ok a → (l' : Lent) → Cut g (settle_steps (take r.count r.blocks)) l l' → Shows g l l' a
+  pub answered_cut : (a : Mounted) → mount_of g l ≡ ok a → (l' : Lent) → Cut g (steps_of list) l l' → Shows g l l' a
   answered_cut a m l' c = settle_cut g l a _ m listed l' c
 
   module _ (l' : Lent) (f : l' ≡ leaves g l (settle g l)) where
@@ -29,5 +27,5 @@ module _ (g : Geometry) (l : Lent) (r : Settled) (e : answer r ≡ settle g l) (
     left_whole a m = subst (λ (x : Lent). meaning.Settled g l x a) (sym f) (settle_whole g l a m)
 
     -- "A whole run equals its list done in order"
-    pub left_runs : do_steps g l (settle_steps (take r.count r.blocks)) ≡ ok l'
+    pub left_runs : do_steps g l (steps_of list) ≡ ok l'
     left_runs = settle_runs g l _ listed ∙ ap {B = Answer Lent} ok (sym f)

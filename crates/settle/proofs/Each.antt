@@ -1,27 +1,24 @@
 -- Steps done one by one are the list done in order, and what a settle answers and leaves.
-use Prim.Native.Nat.{ℕ, ◌+◌, ◌≤◌, ◌<◌}
+use Prim.Native.Nat.{ℕ, ◌+◌, ◌<◌}
 use mathlib.Core.Path.{◌≡◌, refl, sym, ap, ◌∙◌}
-use mathlib.Core.List.{List, [], ◌∷◌, ◌++◌, map, map-append}
-use native.Mathlib.Omega.{arith}
+use mathlib.Core.List.{List, [], ◌∷◌, ◌++◌, map-append}
 use native.Mathlib.Numerals.{add-one}
 use lib.ListN.{length, take, get_or}
-use lib.Seq.{take_all, take-suc}
+use lib.Seq.{take-suc}
 use Rattle.base.proofs.Tests.{zero_one}
 use Rattle.meaning.specs.declared.Geometry.{Geometry}
 use Rattle.meaning.specs.declared.Refusal.{Refusal}
 use Rattle.meaning.specs.declared.Step.{Step}
-use Rattle.meaning.specs.Answer.{Answer, ok, no, and_then}
+use Rattle.meaning.specs.declared.Step.TheVariants.{Erase}
+use Rattle.meaning.specs.Answer.{Answer, ok, no, and_then, block}
 use Rattle.meaning.specs.Flash.{Lent}
 use Rattle.meaning.specs.Mount.{Mounted, mount_of}
 use Rattle.meaning.specs.Services.{do_step, do_steps, leaves, settle, settle_steps}
 use Rattle.demand.proofs.Demand.{settle_runs}
 use Rattle.step.specs.Done.{left, stepped}
-use Rattle.replay.specs.declared.Said.{Said}
-use Rattle.replay.specs.declared.Said.TheVariants.{Whole, Refused}
-use Rattle.replay.specs.Replay.{answer_by}
 use Rattle.shown.specs.declared.Shown.{Shown}
 use Rattle.shown.specs.Shown as show
-use Rattle.settle.specs.Settled.{each, Counted}
+use Rattle.settle.specs.Settled.{each, steps_of}
 
 -- ---- one step more
 
@@ -30,21 +27,28 @@ unfolding each
 each_more g l [] s = refl
 each_more g l (t ∷ ss) s = each_more g (stepped g l t) ss s
 
-module _ {A : Type 0} (g : Geometry) (l : Lent) (f : A → Step) (xs : List A) (i : ℕ) (d : A) (h : i < length xs) where
-  next_step : map f (take (i + 1) xs) ≡ map f (take i xs) ++ (f (get_or xs i d) ∷ [])
-  next_step = ap (λ (k : ℕ). map f (take k xs)) (add-one i) ∙ ap (map f) (take-suc xs i d h) ∙ map-append f (take i xs) (get_or xs i d ∷ [])
+next : {l₁ l₂ : Lent} (g : Geometry) (l : Lent) (ss : List Step) (s : Step) → l₁ ≡ each g l ss → l₂ ≡ stepped g l₁ s → l₂ ≡ each g l (ss ++ (s ∷ []))
+next g l ss s e k = k ∙ ap (λ (x : Lent). stepped g x s) e ∙ sym (each_more g l ss s)
 
-  pub each_next : {l₁ l₂ : Lent} → l₁ ≡ each g l (map f (take i xs)) → l₂ ≡ stepped g l₁ (f (get_or xs i d)) → l₂ ≡ each g l (map f (take (i + 1) xs))
-  each_next e k = k ∙ ap (λ (x : Lent). stepped g x (f (get_or xs i d))) e ∙ sym (each_more g l _ _) ∙ ap (each g l) (sym next_step)
+-- a loop over the steps: none yet, and one more
+pub none_done : (g : Geometry) (l : Lent) → l ≡ each g l []
+unfolding each
+none_done g l = refl
 
-pub each_all : {A : Type 0} {l₁ : Lent} (g : Geometry) (l : Lent) (f : A → Step) (xs : List A) (i n : ℕ) → i ≡ n
-    → l₁ ≡ each g l (map f (take i xs)) → l₁ ≡ each g l (map f (take n xs))
-each_all g l f xs i n h e = rw (sym h) e
+pub next_done : {l₁ l₂ : Lent} (g : Geometry) (l : Lent) (ss : List Step) (i : ℕ) (d : Step) → i < length ss → l₁ ≡ each g l (take i ss)
+    → l₂ ≡ stepped g l₁ (get_or ss i d) → l₂ ≡ each g l (take (i + 1) ss)
+next_done g l ss i d h e k = rw (add-one i, take-suc ss i d h) (next g l (take i ss) (get_or ss i d) e k)
 
--- there are no more
-pub each_end : {A : Type 0} {l₁ : Lent} (g : Geometry) (l : Lent) (f : A → Step) (xs : List A) (i n : ℕ) → i ≤ n → length xs ≤ i
-    → l₁ ≡ each g l (map f (take i xs)) → l₁ ≡ each g l (map f (take n xs))
-each_end g l f xs i n h k e = e ∙ ap (λ (ys : List _). each g l (map f ys)) (take_all i xs k ∙ sym (take_all n xs (omega arith)))
+-- a loop over blocks that it erases: none yet, and one more
+pub none_erased : (g : Geometry) (l : Lent) → l ≡ each g l (settle_steps [])
+unfolding each settle_steps
+none_erased g l = refl
+
+pub next_erased : {l₁ l₂ : Lent} (g : Geometry) (l : Lent) (xs : List ℕ) (i : ℕ) → i < length xs → l₁ ≡ each g l (settle_steps (take i xs))
+    → l₂ ≡ stepped g l₁ (Erase (block (get_or xs i 0))) → l₂ ≡ each g l (settle_steps (take (i + 1) xs))
+unfolding settle_steps
+next_erased g l xs i h e k =
+    rw (add-one i, take-suc xs i 0 h, map-append (λ (n : ℕ). Erase (block n)) (take i xs) (get_or xs i 0 ∷ [])) (next g l _ (Erase (block (get_or xs i 0))) e k)
 
 -- ---- where no step is refused
 
@@ -60,30 +64,21 @@ each_does g l l' (s ∷ ss) e = each_does g (stepped g l s) l' ss (went (do_step
 
 -- ---- what a settle answers and leaves
 
-module _ (g : Geometry) (l : Lent) (s : Shown) (rows : List (List ℕ)) where
-  -- the list of what a mount shows
-  pub listed : show.showing s rows ≡ mount_of g l → answer_by s.said (settle_steps (take s.erase.count s.erase.blocks)) ≡ settle g l
+module _ (g : Geometry) (l : Lent) where
+  -- the list of what a mount shows, or the mount's refusal
+  pub listed : (s : Shown) (rows : List (List ℕ)) → ok (show.mounted s rows) ≡ mount_of g l → ok (steps_of s.erase) ≡ settle g l
   unfolding settle and_then
-  listed e = listed_by s.said refl ∙ ap (λ (a : Answer Mounted). and_then a (λ m. ok (settle_steps m.erase))) e
-    where
-      listed_by : (y : Said) → s.said ≡ y → answer_by y (settle_steps (take s.erase.count s.erase.blocks))
-          ≡ and_then (answer_by y (show.mounted s rows)) (λ m. ok (settle_steps m.erase))
-      listed_by Whole q = refl
-      listed_by (Refused x) q = refl
+  listed s rows e = ap (λ (a : Answer Mounted). and_then a (λ m. ok (settle_steps m.erase))) e
 
-  pub counted : show.Sized g l s rows → Counted s.said s.erase.count
-  counted z = counted_by s.said z
-    where
-      counted_by : (y : Said) → show.Sizes y g l s rows → Counted y s.erase.count
-      counted_by Whole h = h.2
-      counted_by (Refused x) h = h.2
+  pub refused : (x : Refusal) → no x ≡ mount_of g l → no x ≡ settle g l
+  unfolding settle and_then
+  refused x e = ap (λ (a : Answer Mounted). and_then a (λ m. ok (settle_steps m.erase))) e
 
-none_left : (g : Geometry) (l : Lent) (x : Refusal) (a : Answer (List Step)) (blocks : List ℕ) → no x ≡ a → each g l (settle_steps (take 0 blocks)) ≡ leaves g l a
-unfolding each leaves settle_steps
-none_left g l x a blocks e = rw (sym e)
+  -- the list done block by block is what a settle leaves
+  pub settle_left : (ss : List Step) → ok ss ≡ settle g l → each g l ss ≡ leaves g l (settle g l)
+  settle_left ss e = each_does g l _ _ (settle_runs g l _ (sym e))
 
--- the list done block by block is what a settle leaves
-pub settle_left : (g : Geometry) (l : Lent) (y : Said) (n : ℕ) (blocks : List ℕ) → Counted y n
-    → answer_by y (settle_steps (take n blocks)) ≡ settle g l → each g l (settle_steps (take n blocks)) ≡ leaves g l (settle g l)
-settle_left g l Whole n blocks c e = each_does g l _ _ (settle_runs g l _ (sym e))
-settle_left g l (Refused x) n blocks c e = rw c (none_left g l x (settle g l) blocks e)
+  -- a refusal leaves all as it was
+  pub none_left : (x : Refusal) (a : Answer (List Step)) → no x ≡ a → l ≡ leaves g l a
+  unfolding leaves
+  none_left x a e = rw (sym e)

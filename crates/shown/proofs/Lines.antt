@@ -11,6 +11,7 @@ use Rattle.meaning.specs.declared.Extent.{Extent}
 use Rattle.meaning.specs.Replay.{spot, start, end}
 use Rattle.extent.specs.Rows.{extent_of, Four, Fit, Lined, Within}
 use Rattle.extent.proofs.Line.{lined_wider, lined_append}
+use Rattle.runs.specs.declared.Span.{Span}
 use Rattle.runs.specs.Runs.{rows_of, runs_of, gather, gather_rows, Owned, Rising}
 use Rattle.runs.proofs.Slots.{gather_rows_lem}
 use Rattle.shown.specs.Shown.{Lines}
@@ -19,7 +20,7 @@ file_next : (p q : ℕ) → p < q → spot (p + 1) 0 ≤ spot q 0
 unfolding spot
 file_next p q h = omega arith
 
-module _ (path : ℕ → ℕ) (spans rows : List (List ℕ)) where
+module _ (path : ℕ → ℕ) (spans : List Span) (rows : List (List ℕ)) where
   abbrev Own : ℕ → Type 0
   Own s = Within (spot (path s) 0) (spot (path s + 1) 0) (rows_of spans rows s)
 

@@ -11,7 +11,6 @@ use native.Mathlib.Nat.{sub-zero}
 use lib.Seq.{length-take-le, take_at}
 use Rattle.base.specs.Choice.{if_true}
 use Rattle.base.specs.Scan.{places}
-use Rattle.base.proofs.Tests.{zero_one}
 use Rattle.meaning.specs.declared.Extent.{Extent}
 use Rattle.meaning.specs.declared.Geometry.{Geometry}
 use Rattle.meaning.specs.declared.Plan.{Plan}
@@ -25,27 +24,24 @@ use Rattle.meaning.specs.Log.{log_of, replayed, insertion}
 use Rattle.meaning.specs.Replay as meaning
 use Rattle.meaning.specs.Replay.{replay}
 use Rattle.meaning.specs.Mount.{Mounted, absent, erase_list, shown, mount, mount_of}
-use Rattle.plan.specs.declared.Selected.{Selected}
-use Rattle.plan.specs.declared.Selected.TheVariants as selects
+use Rattle.std.specs.Prelude.{Result, Ok, Err, Some, None}
+use Rattle.std.specs.Prelude as std
 use Rattle.plan.specs.Select.{chosen, judged, selected}
 use Rattle.extent.specs.Rows.{extent_of}
+use Rattle.runs.specs.declared.Span.{Span}
 use Rattle.runs.specs.Runs.{gather_rows, total, put, Live, Stand}
 use Rattle.runs.proofs.Slots.{gather_rows_lem, rows_length}
 use Rattle.runs.proofs.Moves.{stand_of}
 use Rattle.runs.proofs.Laws.{gathered_runs}
 use Rattle.tree.specs.declared.Tree.{Tree}
 use Rattle.tree.specs.Tree.{live, files, record_at, Kept}
-use Rattle.flash_log.specs.declared.insertion.Point.{Point}
+use Rattle.meaning.specs.declared.Address.{Address}
 use Rattle.flash_log.specs.Point.{point}
 use Rattle.flash_log.specs.Cursor.{Ready}
 use Rattle.flash_log.proofs.Sizes.{sizes}
-use Rattle.replay.specs.declared.Said.{Said}
-use Rattle.replay.specs.declared.Said.TheVariants.{Whole, Refused}
 use Rattle.replay.specs.declared.Replayed.{Replayed}
-use Rattle.replay.specs.Replay.{answer_by, shape, answer_of, Held, HeldBy, WholeHeld, path_at}
+use Rattle.replay.specs.Replay.{answer_of, Held, path_at}
 use Rattle.used.specs.declared.Erase.{Erase}
-use Rattle.used.specs.declared.Missing.{Missing}
-use Rattle.used.specs.declared.Missing.TheVariants as missing
 use Rattle.used.specs.Needed.{over, refusal_of}
 use Rattle.used.specs.Bits.{listed, used_bits}
 use Rattle.used.specs.Erase.{erasable, erase_by, erase_of}
@@ -56,14 +52,11 @@ use Rattle.replay.proofs.Holds.{rising_paths}
 use Rattle.shown.proofs.Lines.{gather_within}
 use Rattle.shown.specs.declared.Shown.{Shown}
 use Rattle.shown.specs.Shown as show
-use Rattle.shown.specs.Shown.{rows_shown, tree_of, answer, mounted, showing, later, place_of, Lines, Silent}
+use Rattle.shown.specs.Shown.{rows_shown, tree_of, answer, mounted, showing, later, place_of, Lines}
 
 -- ---- the tree after the log
 
-module _ (r : Replayed) (spans rows : List (List ℕ)) (w : WholeHeld r spans rows) (e : r.said ≡ Whole) where
-  held : Held r.tree spans rows r.room
-  held = subst (λ (s : Said). HeldBy s r.tree spans rows r.room) e w
-
+module _ (r : Replayed) (spans : List Span) (rows : List (List ℕ)) (held : Held r.tree spans rows r.room) where
   stands : Stand spans rows (live r.tree)
   stands = stand_of spans rows r.room.bump (live r.tree) held.placed.parts
 
@@ -103,15 +96,10 @@ module _ (r : Replayed) (spans rows : List (List ℕ)) (w : WholeHeld r spans ro
       subst Lines (sym taken) (gather_within (path_at r.tree) spans rows (live r.tree) held.owned (rising_paths r.tree held.kept)),
     )
 
-    pub whole_answer : {a : Answer meaning.Tree} → answer_of r spans rows ≡ a → answer r out' ≡ a
+    pub whole_answer : {a : Answer meaning.Tree} → answer_of (Ok r) spans rows ≡ a → ok (tree_of r out') ≡ a
     whole_answer q =
-        ap {B = Answer meaning.Tree} (λ xs. answer_by r.said (record { records = files r.tree; extents = xs; applied = r.applied; ignored = r.ignored }))
+        ap {B = Answer meaning.Tree} (λ xs. ok (record { records = files r.tree; extents = xs; applied = r.applied; ignored = r.ignored }))
         (gathered_runs spans rows out out' (live r.tree) r.room.used stands (used_total, g.1)) ∙ q
-
-module _ {x : Refusal} (r : Replayed) (out : List (List ℕ)) (e : r.said ≡ Refused x) where
-  pub stopped_answer : {a : Answer meaning.Tree} (spans rows : List (List ℕ)) → answer_of r spans rows ≡ a → answer r out ≡ a
-  stopped_answer spans rows q =
-      ap (λ (s : Said). answer_by s (tree_of r out)) e ∙ sym (ap (λ (s : Said). answer_by s (shape r.tree spans rows r.applied r.ignored)) e) ∙ q
 
 -- ---- the parts of what is shown
 
@@ -160,51 +148,42 @@ part_length rows n h k = sym (ap length (part_is rows n) ∙ length-take-le n ro
 
 -- ---- after the labels
 
-module _ (g : Geometry) (l : Lent) (p : Plan) (k : Ready g l p) (r : Replayed) (rows : List (List ℕ)) (a : answer r rows ≡ replay (log_of g (replayed g (image_of g l)))) where
-  whole_replay : r.said ≡ Whole → replay (log_of g (replayed g (image_of g l))) ≡ ok (tree_of r rows)
-  whole_replay e = sym a ∙ ap (λ (s : Said). answer_by s (tree_of r rows)) e
-
-  pub later_stopped : {x : Refusal} → r.said ≡ Refused x → later g l ≡ no x
+module _ (g : Geometry) (l : Lent) where
+  pub later_stopped : {x : Refusal} → no x ≡ replay (log_of g (replayed g (image_of g l))) → no x ≡ later g l
   unfolding later and_then
-  later_stopped e = rw (sym a ∙ ap (λ (s : Said). answer_by s (tree_of r rows)) e)
+  later_stopped e = rw (← e)
 
-  module _ (e : r.said ≡ Whole) {xs : List (List ℕ)} (xe : xs ≡ take r.room.used rows) (m : Missing)
+  module _ (p : Plan) (k : Ready g l p) (r : Replayed) (rows : List (List ℕ)) (a : ok (tree_of r rows) ≡ replay (log_of g (replayed g (image_of g l))))
+      {xs : List (List ℕ)} (xe : xs ≡ take r.room.used rows) (m : std.Option ℕ)
       (z : refusal_of m ≡ absent (over (length l.tags) g) (labels_of l.tags l.paths) (map extent_of xs)) where
     absent_so : absent g (image_of g l).labels (tree_of r rows).extents ≡ refusal_of m
     unfolding image_of
     absent_so = ap (λ (ys : List (List ℕ)). absent g (labels_of l.tags l.paths) (map extent_of ys)) (sym xe) ∙ sym (absent_is m g l (labels_of l.tags l.paths) (map extent_of xs) k.fit z)
 
-    pub later_lacking : {q : ℕ} → m ≡ missing.Path q → later g l ≡ no (refused.Data q)
+    pub later_lacking : {q : ℕ} → m ≡ Some q → no (refused.Data q) ≡ later g l
     unfolding later and_then unless refusal_of
-    later_lacking h = rw (whole_replay e, absent_so, h)
+    later_lacking h = rw (sym a, absent_so, h)
 
-    pub later_whole : m ≡ missing.Nothing → later g l ≡ ok (shown g (image_of g l) (tree_of r xs))
+    pub later_whole : m ≡ None → later g l ≡ ok (shown g (image_of g l) (tree_of r xs))
     unfolding later and_then unless refusal_of
     later_whole h =
-        rw (whole_replay e, absent_so, h)
+        rw (sym a, absent_so, h)
         (ap {B = Answer Mounted} (λ ys. ok (shown g (image_of g l) (record { records = files r.tree; extents = ys; applied = r.applied; ignored = r.ignored })))
         (sym (same_rows xs rows r.room.used r.room.used xe refl)))
 
 -- ---- an answer by its parts
 
-pub refused_shows : {x : Refusal} {a : Answer Mounted} (s : Shown) (rows : List (List ℕ)) → Silent s × (s.said ≡ Refused x) → a ≡ no x → showing s rows ≡ a
-refused_shows s rows h e = ap (λ (y : Said). answer_by y (mounted s rows)) h.1 ∙ sym e
-
-pub refused_sizes : {x : Refusal} (g : Geometry) (l : Lent) (s : Shown) (rows : List (List ℕ)) → Silent s × (s.said ≡ Refused x) → show.Sized g l s rows
-refused_sizes g l s rows h = subst (λ (y : Said). show.Sizes y g l s rows) (sym h.1) h.0
-
 true_or : (b : Bool) → (b ≡ true) ⊎ (b ≡ false)
 true_or true = inl refl
 true_or false = inr refl
 
-whole_shows : {a : Answer Mounted} {t : Mounted} (s : Shown) (xs rows : List (List ℕ)) (n : ℕ) → xs ≡ take n rows → s.extents ≡ n → s.said ≡ Whole → mounted s xs ≡ t → a ≡ ok t → showing s rows ≡ a
-whole_shows s xs rows n xe ne e h z =
-    ap (λ (y : Said). answer_by y (mounted s rows)) e
-    ∙ ap {B = Answer Mounted} (λ ys. ok (record { tree = record { records = take s.files s.records; extents = ys; applied = s.applied; ignored = s.ignored }; erase = take s.erase.count s.erase.blocks; insert = place_of s.insertion })) (sym (same_rows xs rows n s.extents xe ne))
+whole_shows : {a : Answer Mounted} {t : Mounted} (s : Shown) (xs rows : List (List ℕ)) (n : ℕ) → xs ≡ take n rows → s.extents ≡ n → mounted s xs ≡ t → a ≡ ok t → showing (Ok s) rows ≡ a
+whole_shows s xs rows n xe ne h z =
+    ap {B = Answer Mounted} (λ ys. ok (record { tree = record { records = take s.files s.records; extents = ys; applied = s.applied; ignored = s.ignored }; erase = take s.erase.count s.erase.blocks; insert = place_of s.insertion })) (sym (same_rows xs rows n s.extents xe ne))
     ∙ ap {B = Answer Mounted} ok h ∙ sym z
 
-whole_sized : (g : Geometry) (l : Lent) (s : Shown) (xs rows : List (List ℕ)) (n : ℕ) → xs ≡ take n rows → s.extents ≡ n → s.said ≡ Whole → show.Sizes Whole g l s xs → show.Sized g l s rows
-whole_sized g l s xs rows n xe ne e h = subst (λ (y : Said). show.Sizes y g l s rows) (sym e) (
+whole_sized : (g : Geometry) (l : Lent) (s : Shown) (xs rows : List (List ℕ)) (n : ℕ) → xs ≡ take n rows → s.extents ≡ n → show.Sizes g l s xs → show.Sizes g l s rows
+whole_sized g l s xs rows n xe ne h = (
   h.0,
   h.1,
   h.2,
@@ -223,7 +202,7 @@ module _ (g : Geometry) (l : Lent) (p : Plan) (k : Ready g l p) where
   pub tags_few : length l.tags ≤ 1024
   tags_few = omega (arith, (sizes g l k.fit).tags, (sizes g l k.fit).blocks)
 
-  module _ (r : Replayed) (xs : List (List ℕ)) (n : r.room.used ≡ length xs) (records : List Record) {masks : List ℕ} {erase : Erase} {ins : Point}
+  module _ (r : Replayed) (xs : List (List ℕ)) (n : r.room.used ≡ length xs) (records : List Record) {masks : List ℕ} {erase : Erase} {ins : std.Option Address}
       (mz : masks ≡ listed 1024 (used_bits (over (length l.tags) g) (labels_of l.tags l.paths) (map extent_of xs)))
       (ez : erase ≡ erase_of (erase_by (length l.tags) (labels_of l.tags l.paths) p masks))
       (iz : ins ≡ point (insertion g (replayed g (image_of g l))))
@@ -241,7 +220,6 @@ module _ (g : Geometry) (l : Lent) (p : Plan) (k : Ready g l p) where
       insertion = ins;
       applied = r.applied;
       ignored = r.ignored;
-      said = Whole;
     }
 
     whole_mounted : mounted (whole r.room.used) xs ≡ shown g (image_of g l) (tree_of r xs)
@@ -256,7 +234,7 @@ module _ (g : Geometry) (l : Lent) (p : Plan) (k : Ready g l p) where
     unfolding erase_of erase_by
     erase_few = omega (arith, places_few (length l.tags) (λ i. erasable (length l.tags) (labels_of l.tags l.paths) p (get_or masks i 0) i), tags_few)
 
-    whole_sizes : Kept r.tree → length xs ≤ 1024 → Lines xs → show.Sizes Whole g l (whole r.room.used) xs
+    whole_sizes : Kept r.tree → length xs ≤ 1024 → Lines xs → show.Sizes g l (whole r.room.used) xs
     unfolding image_of
     whole_sizes kt few up = (
       kt.few,
@@ -270,37 +248,25 @@ module _ (g : Geometry) (l : Lent) (p : Plan) (k : Ready g l p) where
 
     -- the rows are the first of those that are lent
     pub whole_answered : (rows : List (List ℕ)) → xs ≡ take r.room.used rows → Kept r.tree × (r.room.used ≤ 1024) × Lines (take r.room.used rows)
-        → later g l ≡ ok (shown g (image_of g l) (tree_of r xs)) → (m : ℕ) → m ≡ r.room.used → (showing (whole m) rows ≡ later g l) × show.Sized g l (whole m) rows
-    whole_answered rows xe kept a m e = subst (λ (j : ℕ). (showing (whole j) rows ≡ later g l) × show.Sized g l (whole j) rows) (sym e) (
-      whole_shows (whole r.room.used) xs rows r.room.used xe refl refl whole_mounted a,
-      whole_sized g l (whole r.room.used) xs rows r.room.used xe refl refl (whole_sizes kept.0 (omega arith) (subst Lines (sym xe) kept.2)),
+        → later g l ≡ ok (shown g (image_of g l) (tree_of r xs)) → (m : ℕ) → m ≡ r.room.used → (showing (Ok (whole m)) rows ≡ later g l) × show.Sizes g l (whole m) rows
+    whole_answered rows xe kept a m e = subst (λ (j : ℕ). (showing (Ok (whole j)) rows ≡ later g l) × show.Sizes g l (whole j) rows) (sym e) (
+      whole_shows (whole r.room.used) xs rows r.room.used xe refl whole_mounted a,
+      whole_sized g l (whole r.room.used) xs rows r.room.used xe refl (whole_sizes kept.0 (omega arith) (subst Lines (sym xe) kept.2)),
     )
 
 -- ---- the labels
 
-abbrev kind : Selected → ℕ
-kind (selects.Refused r) = 0
-kind (selects.Planned p) = 1
-
-abbrev reason : Refusal → Selected → Refusal
-reason d (selects.Refused r) = r
-reason d (selects.Planned p) = d
-
-abbrev plan : Plan → Selected → Plan
-plan d (selects.Refused r) = d
-plan d (selects.Planned p) = p
-
-unless_refused : (o : Option Refusal) (q : Plan) (k : Answer Mounted) (x : Refusal) → chosen (unless o (ok q)) ≡ selects.Refused x → unless o k ≡ no x
+unless_refused : (o : Option Refusal) (q : Plan) (k : Answer Mounted) (x : Refusal) → chosen (unless o (ok q)) ≡ Err x → unless o k ≡ no x
 unfolding chosen unless
-unless_refused none q k x e = absurd (zero_one (ap kind (sym e)))
-unless_refused (some r) q k x e = ap {B = Answer Mounted} no (ap (reason r) e)
+unless_refused none q k x e = cc
+unless_refused (some r) q k x e = cc
 
-unless_planned : (o : Option Refusal) (q p : Plan) (k : Answer Mounted) → chosen (unless o (ok q)) ≡ selects.Planned p → (p ≡ q) × (unless o k ≡ k)
+unless_planned : (o : Option Refusal) (q p : Plan) (k : Answer Mounted) → chosen (unless o (ok q)) ≡ Ok p → (p ≡ q) × (unless o k ≡ k)
 unfolding chosen unless
-unless_planned none q p k e = (sym (ap (plan q) e), refl)
-unless_planned (some r) q p k e = absurd (zero_one (ap kind e))
+unless_planned none q p k e = (cc, refl)
+unless_planned (some r) q p k e = absurd (cc)
 
-module _ (g : Geometry) (l : Lent) {s : Selected} (e : s ≡ selected g l) where
+module _ (g : Geometry) (l : Lent) {s : Result Plan Refusal} (e : s ≡ selected g l) where
   module _ (f : fits g l ≡ true) where
     judged_so : s ≡ chosen (unless (label_refusal g.blocks (image_of g l).labels) (ok (log_plan (length l.tags) (labels_of l.tags l.paths))))
     unfolding selected judged if_true image_of
@@ -310,20 +276,20 @@ module _ (g : Geometry) (l : Lent) {s : Selected} (e : s ≡ selected g l) where
     unfolding mount_of if_true mount later
     mount_so = rw f
 
-  unfit : fits g l ≡ false → (s ≡ selects.Refused refused.Geometry) × (mount_of g l ≡ no refused.Geometry)
+  unfit : fits g l ≡ false → (s ≡ Err refused.Geometry) × (mount_of g l ≡ no refused.Geometry)
   unfolding selected mount_of if_true chosen
   unfit f = (e ∙ rw f, rw f)
 
-  pub selected_no : {x : Refusal} → s ≡ selects.Refused x → mount_of g l ≡ no x
+  pub selected_no : {x : Refusal} → s ≡ Err x → mount_of g l ≡ no x
   selected_no {x} h = ⊎_elim
       (λ (f : fits g l ≡ true). mount_so f ∙ unless_refused _ _ (later g l) x (sym (judged_so f) ∙ h))
-      (λ (f : fits g l ≡ false). (unfit f).1 ∙ ap {B = Answer Mounted} no (ap (reason refused.Geometry) (sym (unfit f).0 ∙ h)))
+      (λ (f : fits g l ≡ false). let u = unfit f in cc)
       (true_or (fits g l))
 
-  pub selected_ready : {p : Plan} → s ≡ selects.Planned p → Ready g l p × (mount_of g l ≡ later g l)
+  pub selected_ready : {p : Plan} → s ≡ Ok p → Ready g l p × (mount_of g l ≡ later g l)
   selected_ready {p} h = ⊎_elim
       (λ (f : fits g l ≡ true).
       let u = unless_planned (label_refusal g.blocks (image_of g l).labels) _ p (later g l) (sym (judged_so f) ∙ h) in
       (record { fit = f; plan = u.0 }, mount_so f ∙ u.1))
-      (λ (f : fits g l ≡ false). absurd (zero_one (ap kind (sym (unfit f).0 ∙ h))))
+      (λ (f : fits g l ≡ false). let u = unfit f in absurd (cc))
       (true_or (fits g l))

@@ -1,9 +1,9 @@
 -- The answer of a mount, as document 01 has it.
-use Rattle.std.specs.Prelude.{ℕ, ◌≤◌, ◌≡◌, List, map, length, take}
-use Rattle.std.proofs.Math.Option.{Option, none, some}
+use Rattle.std.specs.Prelude.{ℕ, ◌≤◌, ◌≡◌, List, map, length, take, Option, Some, None, Result, Ok, Err}
+use Rattle.std.proofs.Math.Option as maybe
 use Rattle.meaning.specs.declared.Extent.{Extent}
 use Rattle.meaning.specs.declared.Geometry.{Geometry}
-use Rattle.meaning.specs.Answer.{Answer, ok, unless, and_then}
+use Rattle.meaning.specs.Answer.{Answer, answer_by, ok, unless, and_then}
 use Rattle.meaning.specs.Flash.{Lent, image_of}
 use Rattle.meaning.specs.Log.{log_of, replayed}
 use Rattle.meaning.specs.Replay as meaning
@@ -11,12 +11,9 @@ use Rattle.meaning.specs.Replay.{replay}
 use Rattle.meaning.specs.Mount.{Mounted, absent, erase_list, shown}
 use Rattle.extent.specs.Rows.{extent_of, Within}
 use Rattle.tree.specs.Tree.{files}
-use Rattle.flash_log.specs.declared.insertion.Point.{Point}
-use Rattle.flash_log.specs.declared.insertion.Point.TheVariants.{At, Nowhere}
 use Rattle.replay.specs.declared.Replayed.{Replayed}
-use Rattle.replay.specs.declared.Said.{Said}
-use Rattle.replay.specs.declared.Said.TheVariants.{Whole, Refused}
-use Rattle.replay.specs.Replay.{answer_by}
+use Rattle.meaning.specs.declared.Address.{Address}
+use Rattle.meaning.specs.declared.Refusal.{Refusal}
 use Rattle.used.specs.Bits.{listed, used_bits}
 use Rattle.used.specs.Erase.{erase_of}
 use Rattle.shown.specs.declared.Shown.{Shown}
@@ -30,8 +27,8 @@ rows_shown rows n = map extent_of (take n rows)
 abbrev pub tree_of : Replayed → List (List ℕ) → meaning.Tree
 tree_of r rows = record { records = files r.tree; extents = rows_shown rows r.room.used; applied = r.applied; ignored = r.ignored }
 
-abbrev pub answer : Replayed → List (List ℕ) → Answer meaning.Tree
-answer r rows = answer_by r.said (tree_of r rows)
+abbrev pub answer : Result Replayed Refusal → List (List ℕ) → Answer meaning.Tree
+answer r rows = answer_by (λ (x : Replayed). tree_of x rows) r
 
 -- the rows are extents, sorted and disjoint
 abbrev pub Lines : List (List ℕ) → Type 0
@@ -40,9 +37,9 @@ Lines rows = (top : ℕ) × Within 0 top rows
 -- ---- the answer
 
 -- an address, or none
-abbrev pub place_of : Point → Option ℕ
-place_of (At a) = some a.0
-place_of Nowhere = none
+abbrev pub place_of : Option Address → maybe.Option ℕ
+place_of (Some a) = maybe.some a.0
+place_of None = maybe.none
 
 abbrev pub mounted : Shown → List (List ℕ) → Mounted
 mounted r rows = record {
@@ -51,8 +48,8 @@ mounted r rows = record {
   insert = place_of r.insertion;
 }
 
-abbrev pub showing : Shown → List (List ℕ) → Answer Mounted
-showing r rows = answer_by r.said (mounted r rows)
+abbrev pub showing : Result Shown Refusal → List (List ℕ) → Answer Mounted
+showing r rows = answer_by (λ (s : Shown). mounted s rows) r
 
 -- after the labels: refusals 7 to 9, then 10
 unfoldable pub later : Geometry → Lent → Answer Mounted
@@ -61,19 +58,15 @@ later g l =
     unless (absent g (image_of g l).labels t.extents)
     (ok (shown g (image_of g l) t)))
 
--- a refusal shows nothing
-abbrev pub Silent : Shown → Type 0
-Silent r = (r.files ≡ 0) × (r.extents ≡ 0) × (r.erase.count ≡ 0)
-
 -- the counts are within the arrays, the used pages are those of the extents, 0 stands past the erase list, and the rows are in order
-abbrev pub Sizes : Said → Geometry → Lent → Shown → List (List ℕ) → Type 0
-Sizes Whole g l r rows =
-    (r.files ≤ 256) × (r.extents ≤ 1024) × (r.erase.count ≤ 1024)
-    × (r.used ≡ listed 1024 (used_bits g (image_of g l).labels (rows_shown rows r.extents)))
-    × (r.erase ≡ erase_of (erase_list g (image_of g l).labels (rows_shown rows r.extents)))
-    × Lines (take r.extents rows)
-    × (r.files ≤ length r.records)
-Sizes (Refused x) g l r rows = Silent r
+abbrev pub Sizes : Geometry → Lent → Shown → List (List ℕ) → Type 0
+Sizes g l s rows =
+    (s.files ≤ 256) × (s.extents ≤ 1024) × (s.erase.count ≤ 1024)
+    × (s.used ≡ listed 1024 (used_bits g (image_of g l).labels (rows_shown rows s.extents)))
+    × (s.erase ≡ erase_of (erase_list g (image_of g l).labels (rows_shown rows s.extents)))
+    × Lines (take s.extents rows)
+    × (s.files ≤ length s.records)
 
-abbrev pub Sized : Geometry → Lent → Shown → List (List ℕ) → Type 0
-Sized g l r rows = Sizes r.said g l r rows
+abbrev pub Sized : Geometry → Lent → Result Shown Refusal → List (List ℕ) → Type 0
+Sized g l (Ok s) rows = Sizes g l s rows
+Sized g l (Err x) rows = Unit {0}

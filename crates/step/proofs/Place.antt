@@ -47,3 +47,7 @@ module _ (g : Geometry) where
           ⊎_elim (λ u. ⊎_elim (λ v. ⊎_elim (is x 256 (omega arith)) (is x 512 (omega arith)) (or_cases (eqb x 256) (eqb x 512) v))
           (is x 1024 (omega arith)) (or_cases (eqb x 256 || eqb x 512) (eqb x 1024) u))
           (is x 2048 (omega arith)) (or_cases (eqb x 256 || eqb x 512 || eqb x 1024) (eqb x 2048) t)
+
+  -- page p of block i ends within the contents
+  pub page_within : (i p s n : ℕ) → s ≡ block_size g → n ≡ g.blocks * block_size g → i < g.blocks → p < g.pages → i * s + p * g.size + g.size ≤ n
+  page_within i p s n e f h k = let a : (p + 1) * g.size ≡ p * g.size + g.size = next p g.size in omega (arith, block_ends i s n e f h, page_ends p s e k)

@@ -1,40 +1,19 @@
 -- From the lent part to the definition: what a written part leaves of the contents.
 use mathlib.Core.Path.{◌≡◌, refl, sym, ap, ap₂, ◌∙◌}
-use mathlib.Core.List.{List, [], ◌∷◌, ◌++◌, append-nil, append_assoc}
+use mathlib.Core.List.{List, [], ◌∷◌, ◌++◌, append_assoc}
 use Prim.Native.Nat.{ℕ, zero, suc, ◌+◌, ◌-◌, ◌*◌, ◌≤◌}
 use native.Mathlib.Omega.{arith}
 use borrow.Rule.Slice.PartMut.{put_mid}
-use lib.ListN.{length, set, take, drop, replicate, length-drop, length-append, length-replicate, drop_of_length-le}
-use lib.Seq.{take_all, take-append_seam, take-take, drop-drop, length-take-le}
+use lib.ListN.{length, set, take, drop, replicate, length-drop, length-replicate}
+use lib.Seq.{take-take, drop-drop, length-take-le}
+use Rattle.std.specs.List.{copy_within}
 use Rattle.meaning.specs.declared.Geometry.{Geometry}
 use Rattle.meaning.specs.declared.Block.{Block}
 use Rattle.meaning.specs.declared.Step.TheVariants.{PageWrite}
 use Rattle.meaning.specs.Flash.{Lent, begins, block_size, byte_of, erased_path, image_of, page_of}
 use Rattle.meaning.specs.Services.{done, erased, overwrite, relabel}
 use Rattle.plan.specs.Select.{lent}
-use Rattle.step.specs.Done.{page_copied, written}
 use Rattle.step.proofs.Place.{next}
-
--- ---- a page that goes through a local
-
-module _ (local part src : List ℕ) (same : length part ≡ length src) (room : length src ≤ length local) where
-  short : written local src ≡ src ++ drop (length src) local
-  unfolding written
-  short = ap (λ (k : List ℕ). k ++ drop (length src) local) (take_all (length local) src room)
-
-  long : length part ≤ length (written local src)
-  long =
-      let a = ap (λ (k : List ℕ). length k) short ∙ length-append src (drop (length src) local) in
-      omega arith
-
-  pub through : written part (written local src) ≡ src
-  unfolding written
-  through =
-      ap (λ (k : List ℕ). take (length part) (written local src) ++ k) (drop_of_length-le part long)
-      ∙ append-nil (take (length part) (written local src))
-      ∙ ap (λ (n : ℕ). take n (written local src)) same
-      ∙ ap (take (length src)) short
-      ∙ take-append_seam src (drop (length src) local)
 
 -- ---- parts
 
@@ -57,30 +36,16 @@ part_of (suc m) n zero l h = absurd (none m n h)
 part_of (suc m) n (suc k) [] h = refl
 part_of (suc m) n (suc k) (x ∷ xs) h = part_of m n k xs (omega arith)
 
--- ---- copy_page
-
-pub page_put : (xs local : List ℕ) (from to size : ℕ) {held last : List ℕ} → from + size ≤ length xs → to + size ≤ length xs → size ≤ length local
-    → held ≡ written local (take (from + size - from) (drop from xs)) → last ≡ written (take (to + size - to) (drop to xs)) held
-    → put_mid to (to + size - to) xs last ≡ page_copied xs from to size
-unfolding page_copied
-page_put xs local from to size {held} {last} p q r e f =
-    let a : from + size - from ≡ size = omega arith in
-    let b : to + size - to ≡ size = omega arith in
-    let u = part_long from size xs p in
-    let v = part_long to size xs q in
-    let w : length (take size (drop from xs)) ≤ length local = omega arith in
-    let l : last ≡ take size (drop from xs) =
-    f ∙ ap₂ (λ (n : ℕ) (k : List ℕ). written (take n (drop to xs)) k) b (e ∙ ap (λ (n : ℕ). written local (take n (drop from xs))) a)
-    ∙ through local (take size (drop to xs)) (take size (drop from xs)) (v ∙ sym u) w in
-    ap₂ (λ (n : ℕ) (k : List ℕ). put_mid to n xs k) b l ∙ mid to size xs (take size (drop from xs))
-
 -- ---- write
+
+rest : (y n : ℕ) → y + n - y ≡ n
+rest y n = omega arith
 
 -- x and y are the code's positions of the target and of the source
 pub page_done : (g : Geometry) (xs : List ℕ) (from to : Block) (p s : ℕ) {x y : ℕ} {last : List ℕ} → s ≡ block_size g → (p + 1) * g.size ≤ s → from.0 * s + s ≤ length xs
     → x ≡ to.0 * s + p * g.size → y ≡ from.0 * s + p * g.size
-    → last ≡ page_copied xs y x g.size → last ≡ (done g (lent [] [] xs) (PageWrite from to p)).contents
-unfolding done overwrite begins image_of page_of page_copied
+    → last ≡ copy_within xs y (y + g.size) x → last ≡ (done g (lent [] [] xs) (PageWrite from to p)).contents
+unfolding done overwrite begins image_of page_of
 page_done g xs from to p s {x} {y} {last} e h j ex ey f =
     let n = next p g.size in
     let at : (i : ℕ) → i * s + p * g.size ≡ i * block_size g + p * g.size = λ i. ap (λ (k : ℕ). i * k + p * g.size) e in
@@ -92,7 +57,8 @@ page_done g xs from to p s {x} {y} {last} e h j ex ey f =
     let q : from.0 * s ≡ from.0 * block_size g = ap (λ (k : ℕ). from.0 * k) e in
     let fit : from.0 * block_size g + p * g.size + g.size ≤ length xs = omega arith in
     let long : length (take g.size (drop b xs)) ≡ g.size = part_long (from.0 * block_size g + p * g.size) g.size xs fit in
-    f ∙ ap₂ (λ (u v : ℕ). take u xs ++ take g.size (drop v xs) ++ drop (u + g.size) xs) (ex ∙ at to.0) (ey ∙ at from.0)
+    f ∙ ap (λ (k : ℕ). take x xs ++ take k (drop y xs) ++ drop (x + k) xs) (rest y g.size)
+    ∙ ap₂ (λ (u v : ℕ). take u xs ++ take g.size (drop v xs) ++ drop (u + g.size) xs) (ex ∙ at to.0) (ey ∙ at from.0)
     ∙ ap (λ (k : ℕ). take a xs ++ take g.size (drop b xs) ++ drop (a + k) xs) (sym long)
     ∙ ap (λ (z : List ℕ). take a xs ++ z ++ drop (a + length z) xs) page
 

@@ -1,61 +1,19 @@
 // One step of a settle or a reclaim, on the lent flash and labels. Nothing is written before the step is known to lie inside.
+// Where slices are written they stay apart: a Flash of `&mut` slices was tried, and of what it leaves nothing is tied to the slices lent.
 #![tactic(auto)]
 
-ghost use Rattle.std.specs.Prelude.{◌≡◌, true, [], ◌+◌, ◌*◌, ◌≤◌, ◌<◌, length, set, replicate, ltb};
+ghost use Rattle.std.specs.Prelude.{◌≡◌, true, [], ◌+◌, ◌*◌, ◌≤◌, ◌<◌, length, set, ltb};
 ghost use Rattle.meaning.specs.declared.Step.TheVariants.{PageWrite};
 ghost use Rattle.meaning.specs.Flash.{block_size, fits, good_geometry};
 ghost use Rattle.meaning.specs.Services.{do_step, done, erased, inside as the_inside};
 ghost use Rattle.plan.specs.Select.{lent};
-ghost use Rattle.step.specs.Done.{answered, page_copied, stepped, written};
+ghost use Rattle.step.specs.Done.{answered, stepped};
 
+use label::{Flash, Label};
 use meaning::{Block, Geometry, Refusal, Step};
-
-/// Whether a step was done.
-#[derive(Clone, Copy)]
-pub enum Stepped {
-    Done,
-    Refused(Refusal),
-}
 
 // The path of an erased block, 2^34 − 1.
 const ERASED: u64 = 17179869183;
-
-// ---- the flash
-
-fn fill(part: &mut [u8], b: u8)
-    ensures { part.new ≡ replicate (length part.old) b }
-{
-    let mut i = 0;
-    while i < part.len() {
-        part[i] = b;
-        i += 1;
-    }
-}
-
-fn write_page(target: &mut [u8], page: &[u8])
-    ensures { target.new ≡ written target.old page.now }
-{
-    let mut i = 0;
-    while i < target.len() {
-        if page.len() <= i {
-            return;
-        }
-        target[i] = page[i];
-        i += 1;
-    }
-}
-
-// The page goes through a local, for source and target stand in the same slice.
-fn copy_page(contents: &mut [u8], from: usize, to: usize, size: usize)
-    requires { (from + size ≤ length contents.old) × (to + size ≤ length contents.old) × (size ≤ 2048) }
-    ensures { contents.new ≡ page_copied contents.old from to size }
-{
-    let mut held = [0; 2048];
-    let source_end = from + size;
-    write_page(&mut held, &contents[from..source_end]);
-    let target_end = to + size;
-    write_page(&mut contents[to..target_end], &held);
-}
 
 // ---- the steps
 
@@ -68,6 +26,7 @@ fn write_label(tags: &mut [u8], paths: &mut [u64], b: Block, tag: u8, path: u64)
     paths[i] = path;
 }
 
+#[tactic(auto, using(crate::proofs::Place::block_ends, crate::proofs::Whole::fit_tags, crate::proofs::Whole::fit_paths, crate::proofs::Whole::fit_contents))]
 fn erase(g: Geometry, tags: &mut [u8], paths: &mut [u64], contents: &mut [u8], b: Block)
     requires { (fits g (lent tags.old paths.old contents.old) ≡ true) × (b.0 < g.blocks) }
     ensures { lent tags.new paths.new contents.new ≡ erased g (lent tags.old paths.old contents.old) b.0 }
@@ -75,20 +34,20 @@ fn erase(g: Geometry, tags: &mut [u8], paths: &mut [u64], contents: &mut [u8], b
     let size = label::block_size(g) as usize;
     let at = b.0 * size;
     let end = at + size;
-    fill(&mut contents[at..end], 0xff);
-    write_label(tags, paths, b, 0xff, ERASED);
+    contents[at..end].fill(0xff);
+    write_label(tags, paths, b, Label::FREE, ERASED);
 }
 
-// Positions are counted to the page's end: that it lies in its block is all that the tests have shown.
+#[tactic(auto, using(crate::proofs::Place::page_within))]
 fn write(g: Geometry, contents: &mut [u8], from: Block, to: Block, page: usize)
     requires { (good_geometry g ≡ true) × (length contents.old ≡ g.blocks * block_size g) × (from.0 < g.blocks) × (to.0 < g.blocks) × (page < g.pages) }
     ensures { contents.new ≡ (done g (lent [] [] contents.old) (PageWrite from to page)).contents }
 {
     let size = g.size as usize;
     let block = label::block_size(g) as usize;
-    let source_end = from.0 * block + (page + 1) * size;
-    let target_end = to.0 * block + (page + 1) * size;
-    copy_page(contents, source_end - size, target_end - size, size);
+    let source = from.0 * block + page * size;
+    let target = to.0 * block + page * size;
+    contents.copy_within(source..source + size, target);
 }
 
 // ---- what lies inside
@@ -96,68 +55,46 @@ fn write(g: Geometry, contents: &mut [u8], from: Block, to: Block, page: usize)
 fn is_block(g: Geometry, b: Block) -> bool
     ensures { result ≡ ltb b.0 g.blocks }
 {
-    b.0 < g.blocks as usize
+    b.0 < usize::from(g.blocks)
 }
 
-fn is_page(g: Geometry, page: usize) -> bool
-    ensures { result ≡ ltb page g.pages }
-{
-    if page < g.pages as usize {
-        return true;
-    }
-    false
-}
-
-fn are_pages(g: Geometry, from: Block, to: Block, page: usize) -> bool
-    ensures { result ≡ the_inside g (PageWrite from to page) }
-{
-    if !is_block(g, from) {
-        return false;
-    }
-    if !is_block(g, to) {
-        return false;
-    }
-    is_page(g, page)
-}
-
+#[tactic(auto, unfolding(meaning::specs::Services::inside))]
 fn inside(g: Geometry, s: Step) -> bool
     ensures { result ≡ the_inside g s }
 {
     match s {
         Step::Erase(b) => is_block(g, b),
-        Step::PageWrite { from, to, page } => are_pages(g, from, to, page),
+        Step::PageWrite { from, to, page } => {
+            is_block(g, from) && is_block(g, to) && page < usize::from(g.pages)
+        }
         Step::LabelWrite { block, .. } => is_block(g, block),
     }
 }
 
 /// Does one step. "a step outside the geometry is refused with 1", and the slices are then as they were.
+#[tactic(auto, using(crate::proofs::Whole::fit_good, crate::proofs::Whole::fit_tags, crate::proofs::Whole::fit_paths, crate::proofs::Whole::fit_contents, crate::proofs::Whole::page_left), unfolding(crate::specs::Done::answered, crate::specs::Done::stepped, crate::specs::Done::left, meaning::specs::Services::do_step, meaning::specs::Services::inside, meaning::specs::Services::done, meaning::specs::Services::relabel, base::specs::Choice::if_true))]
 pub fn do_step(
     g: Geometry,
     tags: &mut [u8],
     paths: &mut [u64],
     contents: &mut [u8],
     s: Step,
-) -> Stepped
+) -> Result<(), Refusal>
     ensures { (result ≡ answered (do_step g (lent tags.old paths.old contents.old) s)) × (lent tags.new paths.new contents.new ≡ stepped g (lent tags.old paths.old contents.old) s) }
 {
-    if !plan::fits(g, tags, paths, contents) {
-        return Stepped::Refused(Refusal::Geometry);
-    }
-    if !inside(g, s) {
-        return Stepped::Refused(Refusal::Geometry);
+    let flash = Flash {
+        geometry: g,
+        tags,
+        paths,
+        contents,
+    };
+    if !plan::fits(&flash) || !inside(g, s) {
+        return Err(Refusal::Geometry);
     }
     match s {
-        Step::Erase(b) => {
-            erase(g, tags, paths, contents, b);
-            return Stepped::Done;
-        }
-        Step::PageWrite { from, to, page } => {
-            write(g, contents, from, to, page);
-            return Stepped::Done;
-        }
-        Step::LabelWrite { block, tag, path } => {
-            write_label(tags, paths, block, tag, path);
-            return Stepped::Done;
-        }
+        Step::Erase(b) => erase(g, tags, paths, contents, b),
+        Step::PageWrite { from, to, page } => write(g, contents, from, to, page),
+        Step::LabelWrite { block, tag, path } => write_label(tags, paths, block, tag, path),
     }
+    Ok(())
 }

@@ -1,3 +1,2 @@
 -- Laws of a table of records.
-pub mod Lists
 pub mod Filled

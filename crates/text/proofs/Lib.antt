@@ -1,5 +1,4 @@
 -- Laws that the proofs of the functions share, and those of what is put into a slice.
-pub mod Ways
 pub mod Loops
 pub mod Puts
 pub mod Spelled

@@ -1,188 +1,124 @@
 // The pieces of a line of text: a head, a number, bytes in hex. Each takes the byte that ends it, so a line is read piece by piece.
 // Every function is total: past the end of the text stands a newline, so a last line without one needs no case of its own.
-#![tactic(auto)]
+#![tactic(auto, unfolding(base::specs::Choice::if_less, base::specs::Choice::if_eq, base::specs::Choice::if_true, base::specs::Choice::bind, crate::specs::Piece::on_read, crate::specs::Piece::peek_at, crate::specs::Piece::past_at, crate::specs::Piece::hex_digit, crate::specs::Piece::hex_at, crate::specs::Piece::head_at, crate::specs::Piece::byte_at, crate::specs::Piece::number_at, crate::specs::Piece::number_step, crate::specs::Piece::run_at, crate::specs::Piece::run_step), using(crate::proofs::Loops::number_turn, crate::proofs::Loops::number_out, crate::proofs::Loops::run_turn, crate::proofs::Loops::run_out))]
 
-ghost use Rattle.std.specs.Prelude.{◌≡◌, ◌≤◌};
+ghost use Rattle.std.specs.Prelude.{◌≡◌, ◌<◌, IfSome};
 ghost use Rattle.text.specs.Piece.{byte_at, hex_at, hex_digit, head_at, number_at, past_at, peek_at, run_at};
 
-pub const TAB: u8 = 9;
+pub const TAB: u8 = b'\t';
 
-pub const NEWLINE: u8 = 10;
+pub const NEWLINE: u8 = b'\n';
 
-/// A number, and the place past the byte that ends it.
+/// What a piece says, and the place past the byte that ends it.
 #[derive(Clone, Copy)]
-pub enum Field {
-    Read { value: u64, next: usize },
-    Bad,
-}
-
-/// The byte that two hex digits spell, and the place past the byte that ends them.
-#[derive(Clone, Copy)]
-pub enum Byte {
-    Two { value: u8, next: usize },
-    Not,
+pub struct Field<T> {
+    pub value: T,
+    pub next: usize,
 }
 
 pub fn peek(s: &[u8], at: usize) -> u8
     ensures { result ≡ peek_at s.now at }
 {
-    if at < s.len() {
-        return s[at];
-    }
-    NEWLINE
+    s.get(at).copied().unwrap_or(NEWLINE)
 }
 
 /// The next place. It stays at the end, so no sum wraps.
 pub fn past(s: &[u8], at: usize) -> usize
     ensures { result ≡ past_at s.now at }
 {
-    if at < s.len() {
-        return at + 1;
-    }
-    at
+    if at < s.len() { at + 1 } else { at }
 }
 
-/// What a hex digit of either case stands for; 16 for any other byte.
-pub fn hex_digit(b: u8) -> u8
+/// What a hex digit of either case stands for.
+pub fn hex_digit(b: u8) -> Option<u8>
     ensures value { result ≡ hex_digit b }
-    ensures upper_bound { result ≤ 16 }
+    ensures upper_bound { IfSome result (λ d. d < 16) }
 {
-    if b < 48 {
-        return 16;
+    match b {
+        b'0'..=b'9' => Some(b - b'0'),
+        b'A'..=b'F' => Some(b - b'A' + 10),
+        b'a'..=b'f' => Some(b - b'a' + 10),
+        _ => None,
     }
-    if b < 58 {
-        return b - 48;
-    }
-    if b < 65 {
-        return 16;
-    }
-    if b < 71 {
-        return b - 55;
-    }
-    if b < 97 {
-        return 16;
-    }
-    if b < 103 {
-        return b - 87;
-    }
-    16
 }
 
-/// The byte that two hex digits spell; 256 where they are none.
-pub fn hex_at(s: &[u8], at: usize) -> u16
-    ensures value { result ≡ hex_at s.now at }
-    ensures upper_bound { result ≤ 256 }
+/// The byte that two hex digits spell.
+pub fn hex_at(s: &[u8], at: usize) -> Option<u8>
+    ensures { result ≡ hex_at s.now at }
 {
-    let a = peek(s, at);
-    let h = hex_digit(a);
-    if h == 16 {
-        return 256;
-    }
-    let i = past(s, at);
-    let b = peek(s, i);
-    let l = hex_digit(b);
-    if l == 16 {
-        return 256;
-    }
-    (h as u16) * 16 + l as u16
+    let h = hex_digit(peek(s, at))?;
+    let l = hex_digit(peek(s, past(s, at)))?;
+    Some(h * 16 + l)
 }
 
-/// A letter and a tab.
-pub fn head_at(s: &[u8], at: usize, letter: u8) -> Field
+/// A letter and a tab: the place past them.
+pub fn head_at(s: &[u8], at: usize, letter: u8) -> Option<usize>
     ensures { result ≡ head_at s.now at letter }
 {
-    let a = peek(s, at);
     let i = past(s, at);
-    let b = peek(s, i);
-    let next = past(s, i);
-    if a == letter {
-        if b == TAB {
-            return Field::Read { value: 0, next };
-        }
-        return Field::Bad;
+    if peek(s, at) == letter && peek(s, i) == TAB {
+        Some(past(s, i))
+    } else {
+        None
     }
-    Field::Bad
 }
 
 /// A decimal number below 2^64, and the byte stop.
-pub fn number_at(s: &[u8], at: usize, stop: u8) -> Field
+pub fn number_at(s: &[u8], at: usize, stop: u8) -> Option<Field<u64>>
     ensures { result ≡ number_at s.now at stop }
 {
-    let a = peek(s, at);
-    if a == stop {
-        return Field::Bad;
+    if peek(s, at) == stop {
+        return None;
     }
     let mut i = at;
     let mut n: u64 = 0;
-    let mut left: usize = 21;
-    while 0 < left {
+    for _k in 0..21u32 {
         let b = peek(s, i);
-        let j = past(s, i);
+        let next = past(s, i);
         if b == stop {
-            return Field::Read { value: n, next: j };
+            return Some(Field { value: n, next });
         }
-        let d = hex_digit(b);
+        let d = hex_digit(b)?;
         if 9 < d {
-            return Field::Bad;
+            return None;
         }
-        if 1844674407370955161 < n {
-            return Field::Bad;
-        }
-        if 18446744073709551615 - n * 10 < d as u64 {
-            return Field::Bad;
-        }
-        n = n * 10 + d as u64;
-        i = j;
-        left -= 1;
+        n = n.checked_mul(10)?.checked_add(u64::from(d))?;
+        i = next;
     }
-    Field::Bad
+    None
 }
 
 /// Two hex digits, and the byte stop.
-pub fn byte_at(s: &[u8], at: usize, stop: u8) -> Byte
+pub fn byte_at(s: &[u8], at: usize, stop: u8) -> Option<Field<u8>>
     ensures { result ≡ byte_at s.now at stop }
 {
-    let v = hex_at(s, at);
-    if v == 256 {
-        return Byte::Not;
+    let value = hex_at(s, at)?;
+    let i = past(s, past(s, at));
+    if peek(s, i) == stop {
+        Some(Field {
+            value,
+            next: past(s, i),
+        })
+    } else {
+        None
     }
-    let h = past(s, at);
-    let i = past(s, h);
-    let b = peek(s, i);
-    let next = past(s, i);
-    if b == stop {
-        return Byte::Two {
-            value: v as u8,
-            next,
-        };
-    }
-    Byte::Not
 }
 
 /// One to size bytes in hex, and the line's end: how many there are.
-pub fn run_at(s: &[u8], at: usize, size: u16) -> Field
+pub fn run_at(s: &[u8], at: usize, size: u16) -> Option<Field<u64>>
     ensures { result ≡ run_at s.now at size }
 {
-    let a = peek(s, at);
-    if a == NEWLINE {
-        return Field::Bad;
+    if peek(s, at) == NEWLINE {
+        return None;
     }
     let mut i = at;
-    let mut n: u64 = 0;
-    let mut left = size as u64 + 1;
-    while 0 < left {
-        let b = peek(s, i);
+    for n in 0..=u64::from(size) {
         let j = past(s, i);
-        if b == NEWLINE {
-            return Field::Read { value: n, next: j };
+        if peek(s, i) == NEWLINE {
+            return Some(Field { value: n, next: j });
         }
-        let v = hex_at(s, i);
-        if v == 256 {
-            return Field::Bad;
-        }
+        hex_at(s, i)?;
         i = past(s, j);
-        n += 1;
-        left -= 1;
     }
-    Field::Bad
+    None
 }

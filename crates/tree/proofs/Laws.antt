@@ -9,14 +9,13 @@ use native.Mathlib.Omega.{arith}
 use native.Mathlib.Numerals.{add-one}
 use lib.ListN.{length, take, drop, set, get_or, length-set, length-map, drop_of_length-le}
 use lib.Seq.{get_or-take, get_or-set_same, length-take-le, take-suc, drop-cons, map-set_same}
-use Rattle.base.specs.Choice.{on_some}
+use Rattle.std.specs.Prelude.{Ok, Err}
 use Rattle.base.specs.Scan.{any_of}
 use Rattle.base.specs.Member.{In}
 use Rattle.base.proofs.Tests.{lt_or}
 use Rattle.meaning.specs.declared.Record.{Record}
-use Rattle.meaning.specs.Replay.{root, look, alter, insert, delete, entry_of, is_empty, home_of}
+use Rattle.meaning.specs.Replay.{root, look, alter, insert, delete, entry_of, is_empty}
 use Rattle.tree.specs.declared.Tree.{Tree}
-use Rattle.tree.specs.declared.keys.Found.TheVariants.{At, Gap}
 use Rattle.tree.specs.Shift.{insert_at, remove_at}
 use Rattle.tree.specs.Tree.{no_record, record_at, live, files, path_of, Rise, Kept, Numbered, Rising, Lower, Stands, put, inserted, removed}
 use Rattle.tree.proofs.Shifts.{opened_first, closed_first, opened_length, closed_length}
@@ -65,7 +64,7 @@ module _ (t : Tree) (k : Kept t) where
   lows p i h f a l = let u : a < t.count = omega arith in rw (← key_is a u) (f a l)
 
   -- ---- the path stands at i
-  module _ (p i : ℕ) (s : Stands t.keys t.count p (At i)) where
+  module _ (p i : ℕ) (s : Stands t.keys t.count p (Ok i)) where
     here : path_at (files t) i ≡ p
     here = sym (key_is i s.0) ∙ s.1.0
 
@@ -83,10 +82,6 @@ module _ (t : Tree) (k : Kept t) where
 
     pub found_path : (record_at t (get_or t.slots i 0)).path ≡ p
     found_path = sym (ap path_of (file_at_lem i s.0)) ∙ here
-
-    pub look_home : home_of p (files t) ≡ (record_at t (get_or t.slots i 0)).parent
-    unfolding home_of on_some
-    look_home = rw found_look
 
     put_set : (q : Record) → files (put (get_or t.slots i 0) q t) ≡ set (files t) i q
     put_set q =
@@ -132,7 +127,7 @@ module _ (t : Tree) (k : Kept t) where
         }
 
   -- ---- the path is missing, and its place is i
-  module _ (p i : ℕ) (s : Stands t.keys t.count p (Gap i)) where
+  module _ (p i : ℕ) (s : Stands t.keys t.count p (Err i)) where
     over : (a : ℕ) → i ≤ a → a < length (files t) → p < path_at (files t) a
     over a h l = let u : a < t.count = omega (arith, files_length) in rw (← key_is a u) (s.1.1 a h u)
 
@@ -192,23 +187,26 @@ module _ (t : Tree) (k : Kept t) where
 
   -- ---- the entries of a directory, one position after another
   module _ (p j : ℕ) where
-    next : j < t.count → drop j (files t) ≡ record_at t (get_or t.slots j 0) ∷ drop (j + 1) (files t)
+    next : j < length (live t) → drop j (files t) ≡ record_at t (get_or (live t) j 0) ∷ drop (j + 1) (files t)
     next h =
-        let l : j < length (files t) = omega (arith, files_length) in
-        drop-cons (files t) j no_record l ∙ rw (file_at_lem j h, add-one j)
+        let l : j < length (files t) = omega (arith, length-map (live t) (record_at t)) in
+        drop-cons (files t) j no_record l ∙ rw (map_at (record_at t) (live t) j 0 no_record h, add-one j)
 
-    pub entry_hit : NoneBefore t p j → j < t.count → (v : Bool) → v ≡ entry_of p (record_at t (get_or t.slots j 0)) → v ≡ true → false ≡ is_empty p (files t)
+    pub entry_slot : j < length (live t) → get_or (live t) j 0 < 256
+    entry_slot h = slot_below (live t) j (slots_take t.count t.slots k.slots) h
+
+    pub entry_hit : NoneBefore t p j → j < length (live t) → (v : Bool) → v ≡ entry_of p (record_at t (get_or (live t) j 0)) → v ≡ true → false ≡ is_empty p (files t)
     unfolding is_empty any_of
     entry_hit u h v e y = rw (u, next h, ← e, y)
 
-    pub entry_on : NoneBefore t p j → j < t.count → (v : Bool) → v ≡ entry_of p (record_at t (get_or t.slots j 0)) → v ≡ false → NoneBefore t p (j + 1)
+    pub entry_on : NoneBefore t p j → j < length (live t) → (v : Bool) → v ≡ entry_of p (record_at t (get_or (live t) j 0)) → v ≡ false → NoneBefore t p (j + 1)
     unfolding any_of
     entry_on u h v e y = rw (u, next h, ← e, y)
 
-    pub entry_end : NoneBefore t p j → t.count ≤ j → true ≡ is_empty p (files t)
+    pub entry_end : NoneBefore t p j → length (live t) ≤ j → true ≡ is_empty p (files t)
     unfolding is_empty any_of
     entry_end u h =
-        let l : length (files t) ≤ j = omega (arith, files_length) in
+        let l : length (files t) ≤ j = omega (arith, length-map (live t) (record_at t)) in
         rw (u, drop_of_length-le (files t) l)
 
 -- ---- the root alone

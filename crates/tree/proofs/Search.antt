@@ -1,63 +1,43 @@
--- A search by halves among rising keys.
-use Prim.Native.Nat.{ℕ, ◌+◌, ◌-◌, ◌/◌, ◌≤◌, ◌<◌}
-use mathlib.Core.Path.{◌≡◌, sym}
+-- A search among rising keys, as std's binary search answers it, and a key found where it stands.
+use Prim.Native.Nat.{ℕ, ◌≤◌, ◌<◌}
+use mathlib.Core.Path.{◌≡◌, sym, ◌∙◌}
 use mathlib.Core.Logic.{⊎_elim}
 use mathlib.Core.List.{List}
 use native.Mathlib.Omega.{arith}
 use native.Mathlib.Nat.{eq-or-lt_of_le}
-use lib.ListN.{get_or}
-use Rattle.base.specs.Choice.{if_less}
-use Rattle.base.proofs.Choices.{all_less}
-use Rattle.tree.specs.Tree.{Rising, Lower, Stands}
-use Rattle.tree.specs.declared.keys.Found.TheVariants.{At, Gap}
+use lib.ListN.{length, take, get_or}
+use lib.Seq.{get_or-take, length-take-le}
+use Rattle.std.specs.Prelude.{Result, Ok, Err, MatchResult}
+use Rattle.std.specs.Ordering.{nat_cmp}
+use Rattle.std.specs.List.Sorted.{IsBinarySearchResult}
+use Rattle.std.proofs.lemmas.List.Sorted.{searched}
+use Rattle.tree.specs.Tree.{Rising, Stands}
 
--- the path's place is one of the `left` from lo on, or just past them
-pub record Within (ks : List ℕ) (n p lo left : ℕ) : Type 0 where
-  pub fits : lo + left ≤ n
-  pub lower : Lower ks p lo
-  pub upper : (a : ℕ) → lo + left ≤ a → a < n → p ≤ get_or ks a 0
+module _ (ks : List ℕ) (n p : ℕ) (up : Rising ks n) where
+  -- a key is found where it stands
+  pub near_hit : (i : ℕ) → i < n → get_or ks i 0 ≡ p → Stands ks n p (Ok i)
+  near_hit i h e = (h, (e, λ a l. omega (arith, up a i l h)))
 
-module _ (ks : List ℕ) (n p : ℕ) (r : Rising ks n) where
-  pub all_left : Within ks n p 0 n
-  all_left = record { fits = omega arith; lower = λ a h. omega arith; upper = λ a h l. omega arith }
+  module _ (h : n ≤ length ks) where
+    long : length (take n ks) ≡ n
+    long = length-take-le n ks h
 
-  below : (m : ℕ) → m < n → get_or ks m 0 < p → (a : ℕ) → a ≤ m → get_or ks a 0 < p
-  below m hm h a l = ⊎_elim (λ (e : a ≡ m). rw e h) (λ (b : a < m). omega (arith, r a m b hm)) (eq-or-lt_of_le l)
+    at : (i : ℕ) → i < length (take n ks) → get_or (take n ks) i 0 ≡ get_or ks i 0
+    at i l = get_or-take n ks i 0 (omega (arith, long))
 
-  from : (m : ℕ) → p ≤ get_or ks m 0 → (a : ℕ) → m ≤ a → a < n → p ≤ get_or ks a 0
-  from m h a l u = ⊎_elim (λ (e : m ≡ a). rw (sym e) h) (λ (b : m < a). omega (arith, r m a b u)) (eq-or-lt_of_le l)
+    rises : (i j : ℕ) → i ≤ j → j < length (take n ks) → get_or (take n ks) i 0 ≤ get_or (take n ks) j 0
+    rises i j l m = ⊎_elim (λ (e : i ≡ j). rw e (omega arith)) (λ (b : i < j). omega (arith, long, at i (omega arith), at j m, up i j b (omega (arith, long)))) (eq-or-lt_of_le l)
 
-  above : (m : ℕ) → p < get_or ks m 0 → (a : ℕ) → m ≤ a → a < n → p < get_or ks a 0
-  above m h a l u = ⊎_elim (λ (e : m ≡ a). rw (sym e) h) (λ (b : m < a). omega (arith, r m a b u)) (eq-or-lt_of_le l)
+    placed : (r : Result ℕ ℕ)
+        → MatchResult r (λ i. (i < length (take n ks)) × (get_or (take n ks) i 0 ≡ p))
+        (λ i. (i ≤ length (take n ks)) × ((k : ℕ) → k < i → get_or (take n ks) k 0 < p) × ((k : ℕ) → i ≤ k → k < length (take n ks) → p < get_or (take n ks) k 0))
+        → Stands ks n p r
+    placed (Ok i) m = near_hit i (omega (arith, long, m.0)) (sym (at i m.0) ∙ m.1)
+    placed (Err i) m =
+        let few : i ≤ n = omega (arith, long, m.0) in (
+          few,
+          ((λ a l. omega (arith, m.1 a l, at a (omega (arith, long)))), (λ a l u. omega (arith, m.2 a l (omega (arith, long)), at a (omega (arith, long))))),
+        )
 
-  pub half : (lo left x : ℕ) → Within ks n p lo left → 0 < left
-      → x ≡ if_less (get_or ks (lo + (left - left / 2) - 1) 0) p (lo + (left - left / 2)) lo → Within ks n p x (left / 2)
-  half lo left x w h e =
-      let f : lo + left ≤ n = w.fits in
-      rw e (all_less (λ (y : ℕ). Within ks n p y (left / 2)) _ _ _ _
-      (λ l. record {
-        fits = omega arith;
-        lower = λ a b. below (lo + (left - left / 2) - 1) (omega arith) l a (omega arith);
-        upper = λ a b u. w.upper a (omega arith) u;
-      })
-      (λ l. record {
-        fits = omega arith;
-        lower = w.lower;
-        upper = λ a b u. from (lo + (left - left / 2) - 1) l a (omega arith) u;
-      }))
-
-  module _ (lo left : ℕ) (w : Within ks n p lo left) (e : left ≤ 0) where
-    pub hit : lo < n → get_or ks lo 0 ≡ p → Stands ks n p (At lo)
-    hit h k = (h, (k, w.lower))
-
-    pub miss : lo < n → (get_or ks lo 0 ≡ p → ⊥) → Stands ks n p (Gap lo)
-    miss h k =
-        let g : p ≤ get_or ks lo 0 = w.upper lo (omega arith) h in
-        (omega arith, (w.lower, above lo (omega arith)))
-
-    pub past_all : n ≤ lo → Stands ks n p (Gap lo)
-    past_all h = (omega (arith, w.fits), (w.lower, λ a b u. omega arith))
-
--- a key is found where it stands
-pub near_hit : (ks : List ℕ) (n p i : ℕ) → Rising ks n → i < n → get_or ks i 0 ≡ p → Stands ks n p (At i)
-near_hit ks n p i r h e = (h, (e, λ a l. omega (arith, r a i l h)))
+    pub stands : (r : Result ℕ ℕ) → IsBinarySearchResult (λ y. nat_cmp y p) (take n ks) r → Stands ks n p r
+    stands r s = placed r (searched (take n ks) p r s rises)

@@ -1,12 +1,12 @@
 -- Slots that are pairwise different: one of them moved, and a record stored in one of them.
 use Prim.Native.Nat.{ℕ, zero, suc, ◌+◌, ◌≤◌, ◌<◌, suc-le-suc, zero-le}
 use mathlib.Core.Path.{◌≡◌, refl, sym, ap, ap₂, subst, ◌∙◌}
-use mathlib.Core.Logic.{◌⊎◌, ◌≢◌, inl, inr, ⊎_elim}
+use mathlib.Core.Logic.{◌≢◌, inl, inr, ⊎_elim}
 use mathlib.Core.List.{List, [], ◌∷◌, ◌++◌, map, append_assoc}
 use native.Mathlib.Omega.{arith}
-use native.Mathlib.Nat.{le_of_suc-le-suc, eq-or-lt_of_le}
+use native.Mathlib.Nat.{le_of_suc-le-suc}
 use native.Mathlib.Numerals.{add-one}
-use lib.ListN.{length, take, drop, set, get_or, take-append-drop, length-take, length-set}
+use lib.ListN.{length, take, drop, set, get_or, take-append-drop, length-take}
 use lib.Seq.{split_at, get_or-set_same, get_or-set_other, take-take, drop-append-le}
 use Rattle.base.specs.Member.{In}
 use Rattle.base.proofs.Lists.{in_left, in_right, in_split}
@@ -110,16 +110,6 @@ module _ (rs : List Record) (q : Record) where
       (store_at ss i l s.1.1 (le_of_suc-le-suc h))
 
 -- ---- the slots in their own order
-
-pub numbered_on : (ss : List ℕ) (k : ℕ) → Numbered ss k → k < 256 → Numbered (set ss k k) (k + 1)
-numbered_on ss k d h = record { len = length-set ss k k ∙ d.len; own = λ a l. at a (eq-or-lt_of_le (bound a l)) }
-  where
-    bound : (a : ℕ) → a < k + 1 → a ≤ k
-    bound a l = omega arith
-
-    at : (a : ℕ) → (a ≡ k) ⊎ (a < k) → get_or (set ss k k) a 0 ≡ a
-    at a (inl e) = rw e (get_or-set_same ss k k 0 (omega (arith, d.len)))
-    at a (inr l) = get_or-set_other ss k a k 0 (λ e. omega arith) ∙ d.own a l
 
 rest_own : (x lo : ℕ) (ss : List ℕ) → ((a : ℕ) → a < length (x ∷ ss) → get_or (x ∷ ss) a 0 ≡ lo + a) → (a : ℕ) → a < length ss → get_or ss a 0 ≡ lo + 1 + a
 rest_own x lo ss f a h = let e : get_or ss a 0 ≡ lo + suc a = f (suc a) (suc-le-suc h) in omega arith

@@ -1,10 +1,8 @@
 -- The tree as a list of files by ascending path, and what is always so of it.
-use Rattle.std.specs.Prelude.{ℕ, ◌+◌, ◌-◌, ◌≤◌, ◌<◌, ◌≡◌, List, [], ◌∷◌, map, length, get_or, set, take}
+use Rattle.std.specs.Prelude.{ℕ, ◌+◌, ◌-◌, ◌≤◌, ◌<◌, ◌≡◌, List, [], ◌∷◌, map, length, get_or, set, take, Result, Ok, Err}
 use Rattle.base.specs.Member.{In}
 use Rattle.meaning.specs.declared.Record.{Record}
 use Rattle.tree.specs.declared.Tree.{Tree}
-use Rattle.tree.specs.declared.keys.Found.{Found}
-use Rattle.tree.specs.declared.keys.Found.TheVariants.{At, Gap}
 use Rattle.tree.specs.Shift.{opened, closed}
 
 -- ---- the files
@@ -71,9 +69,9 @@ abbrev pub Lower : List ℕ → ℕ → ℕ → Type 0
 Lower ks p i = (a : ℕ) → a < i → get_or ks a 0 < p
 
 -- what a search of the first n keys found
-abbrev pub Stands : List ℕ → ℕ → ℕ → Found → Type 0
-Stands ks n p (At i) = (i < n) × ((get_or ks i 0 ≡ p) × Lower ks p i)
-Stands ks n p (Gap i) = (i ≤ n) × (Lower ks p i × ((a : ℕ) → i ≤ a → a < n → p < get_or ks a 0))
+abbrev pub Stands : List ℕ → ℕ → ℕ → Result ℕ ℕ → Type 0
+Stands ks n p (Ok i) = (i < n) × ((get_or ks i 0 ≡ p) × Lower ks p i)
+Stands ks n p (Err i) = (i ≤ n) × (Lower ks p i × ((a : ℕ) → i ≤ a → a < n → p < get_or ks a 0))
 
 -- ---- the three changes, as their owner makes them a field at a time
 

@@ -1,5 +1,7 @@
 // What a message makes of a record, and the tests on one.
-ghost use Rattle.std.specs.Prelude.{◌≡◌, ◌+◌, ◌<◌, max};
+#![tactic(auto, unfolding(base::specs::Choice::if_true, base::specs::Choice::if_eq, meaning::specs::Replay::bit31, meaning::specs::Replay::entry_of, meaning::specs::Replay::stamp, meaning::specs::Replay::sized, meaning::specs::Replay::created, meaning::specs::Replay::truncated, meaning::specs::Replay::written, meaning::specs::Replay::given, meaning::specs::Replay::given_text, meaning::specs::Replay::restated))]
+
+ghost use Rattle.std.specs.Prelude.{◌≡◌, ◌+◌, ◌<◌};
 ghost use Rattle.meaning.specs.Replay.{bit31, stamp, given_text, entry_of, created as the_created, truncated as the_truncated, written as the_written, restated as the_restated, given as the_given};
 
 use meaning::{Extent, Place, Record};
@@ -15,22 +17,17 @@ pub fn is_dir(perm: u32) -> bool
 pub fn is_entry(f: Record, p: u32) -> bool
     ensures { result ≡ entry_of p f }
 {
-    if f.parent == p {
-        return f.path != 0;
-    }
-    false
+    f.parent == p && f.path != 0
 }
 
 /// mtime and muid as given.
-pub fn stamped(mut f: Record, mtime: u32, muid: Place) -> Record
+pub fn stamped(f: Record, mtime: u32, muid: Place) -> Record
     ensures { result ≡ stamp mtime muid f }
 {
-    f.mtime = mtime;
-    f.muid = muid;
-    f
+    Record { mtime, muid, ..f }
 }
 
-/// A new record: muid is uid, length 0.
+/// A new record, by the fields of the message, each once: muid is uid, length 0.
 pub fn created(
     parent: u32,
     perm: u32,
@@ -44,68 +41,57 @@ pub fn created(
     ensures { result ≡ the_created parent perm path mtime cvers name uid gid }
 {
     Record {
-        path: path,
-        parent: parent,
-        perm: perm,
+        path,
+        parent,
+        perm,
         length: 0,
-        cvers: cvers,
-        mtime: mtime,
-        name: name,
-        uid: uid,
-        gid: gid,
+        cvers,
+        mtime,
+        name,
+        uid,
+        gid,
         muid: uid,
     }
 }
 
 /// Length 0; cvers, mtime and muid as given.
-pub fn truncated(mut f: Record, mtime: u32, cvers: u32, muid: Place) -> Record
+pub fn truncated(f: Record, mtime: u32, cvers: u32, muid: Place) -> Record
     ensures { result ≡ the_truncated mtime cvers muid f }
 {
-    f.length = 0;
-    f.cvers = cvers;
-    f.mtime = mtime;
-    f.muid = muid;
-    f
-}
-
-fn larger(a: u32, b: u32) -> u32
-    ensures { result ≡ max a b }
-{
-    if a < b {
-        return b;
+    Record {
+        length: 0,
+        cvers,
+        mtime,
+        muid,
+        ..f
     }
-    a
 }
 
 /// Length grows to offset + count if larger; mtime and muid as given.
-pub fn written(mut f: Record, run: Extent, mtime: u32, muid: Place) -> Record
+pub fn written(f: Record, run: Extent, mtime: u32, muid: Place) -> Record
     requires { run.offset + run.count < 4294967296 }
     ensures { result ≡ the_written run mtime muid f }
 {
-    f.length = larger(f.length, run.offset + run.count);
-    f.mtime = mtime;
-    f.muid = muid;
-    f
+    Record {
+        length: f.length.max(run.offset + run.count),
+        mtime,
+        muid,
+        ..f
+    }
 }
 
 /// All ones is no change.
 pub fn given(new: u32, old: u32) -> u32
     ensures { result ≡ the_given new old }
 {
-    if new == 0xffffffff {
-        return old;
-    }
-    new
+    if new == 0xffffffff { old } else { new }
 }
 
 /// An empty string is no change.
 pub fn given_text(new: Place, old: Place) -> Place
     ensures { result ≡ given_text new old }
 {
-    if new.len == 0 {
-        return old;
-    }
-    new
+    if new.len == 0 { old } else { new }
 }
 
 /// The fields that are given.
@@ -120,20 +106,13 @@ pub fn restated(
 ) -> Record
     ensures { result ≡ the_restated name perm uid gid mtime muid f }
 {
-    let n = given_text(name, f.name);
-    let u = given_text(uid, f.uid);
-    let g = given_text(gid, f.gid);
-    let m = given_text(muid, f.muid);
     Record {
-        path: f.path,
-        parent: f.parent,
+        name: given_text(name, f.name),
         perm: given(perm, f.perm),
-        length: f.length,
-        cvers: f.cvers,
+        uid: given_text(uid, f.uid),
+        gid: given_text(gid, f.gid),
         mtime: given(mtime, f.mtime),
-        name: n,
-        uid: u,
-        gid: g,
-        muid: m,
+        muid: given_text(muid, f.muid),
+        ..f
     }
 }

@@ -1,4 +1,6 @@
 // The verdict on a message, once the record that it speaks of is found: its tests in the order written.
+#![tactic(auto, unfolding(base::specs::Choice::if_true, base::specs::Choice::if_eq, meaning::specs::Replay::is_dir, crate::specs::Judge::judge_create, crate::specs::Judge::judge_remove, crate::specs::Judge::judge_truncate, crate::specs::Judge::judge_write, crate::specs::Judge::judge_wstat))]
+
 ghost use Rattle.std.specs.Prelude.{◌≡◌};
 ghost use Rattle.std.specs.Bool.{xor};
 ghost use Rattle.meaning.specs.Replay.{is_dir, bit31, given as the_given, applies as the_applies};
@@ -12,12 +14,12 @@ pub fn judge_create(parent: Record, taken: bool) -> Verdict
     ensures { result ≡ judge_create parent taken }
 {
     if !is_dir(parent.perm) {
-        return Verdict::ParentNoDirectory;
+        Verdict::ParentNoDirectory
+    } else if taken {
+        Verdict::PathTaken
+    } else {
+        Verdict::Applied
     }
-    if taken {
-        return Verdict::PathTaken;
-    }
-    Verdict::Applied
 }
 
 /// r, of the record f of path. empty: no record is an entry of it.
@@ -25,15 +27,12 @@ pub fn judge_remove(path: u32, f: Record, empty: bool) -> Verdict
     ensures { result ≡ judge_remove path f empty }
 {
     if path == 0 {
-        return Verdict::TheRoot;
+        Verdict::TheRoot
+    } else if is_dir(f.perm) && !empty {
+        Verdict::NotEmpty
+    } else {
+        Verdict::Applied
     }
-    if !is_dir(f.perm) {
-        return Verdict::Applied;
-    }
-    if !empty {
-        return Verdict::NotEmpty;
-    }
-    Verdict::Applied
 }
 
 /// t, of the record f.
@@ -41,9 +40,10 @@ pub fn judge_truncate(f: Record) -> Verdict
     ensures { result ≡ judge_truncate f }
 {
     if is_dir(f.perm) {
-        return Verdict::Directory;
+        Verdict::Directory
+    } else {
+        Verdict::Applied
     }
-    Verdict::Applied
 }
 
 /// w, of the record f.
@@ -51,15 +51,16 @@ pub fn judge_write(f: Record, cvers: u32) -> Verdict
     ensures { result ≡ judge_write f cvers }
 {
     if is_dir(f.perm) {
-        return Verdict::Directory;
+        Verdict::Directory
+    } else if cvers == f.cvers {
+        Verdict::Applied
+    } else {
+        Verdict::OtherVersion
     }
-    if cvers == f.cvers {
-        return Verdict::Applied;
-    }
-    Verdict::OtherVersion
 }
 
 /// The perm as given would change bit 31.
+#[tactic(auto, using(crate::proofs::Judged::differ), unfolding(meaning::specs::Replay::is_dir))]
 fn turns(f: Record, perm: u32) -> bool
     ensures { result ≡ xor (is_dir f) (bit31 (the_given perm f.perm)) }
 {
@@ -71,32 +72,18 @@ pub fn judge_wstat(path: u32, f: Record, name: Place, perm: u32) -> Verdict
     ensures { result ≡ judge_wstat path f name perm }
 {
     if turns(f, perm) {
-        return Verdict::DirectoryBit;
+        Verdict::DirectoryBit
+    } else if path == 0 && name.len != 0 {
+        Verdict::RootName
+    } else {
+        Verdict::Applied
     }
-    if path == 0 {
-        if name.len == 0 {
-            return Verdict::Applied;
-        }
-        return Verdict::RootName;
-    }
-    Verdict::Applied
 }
 
 /// The message is applied.
+#[tactic(auto, unfolding(meaning::specs::Replay::applies))]
 pub fn applies(v: Verdict) -> bool
     ensures { result ≡ the_applies v }
 {
-    match v {
-        Verdict::Applied => true,
-        Verdict::NoParent => false,
-        Verdict::ParentNoDirectory => false,
-        Verdict::PathTaken => false,
-        Verdict::NoFile => false,
-        Verdict::TheRoot => false,
-        Verdict::NotEmpty => false,
-        Verdict::Directory => false,
-        Verdict::OtherVersion => false,
-        Verdict::DirectoryBit => false,
-        Verdict::RootName => false,
-    }
+    matches!(v, Verdict::Applied)
 }

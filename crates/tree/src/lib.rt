@@ -7,6 +7,7 @@ ghost use Rattle.meaning.specs.Replay.{root, is_empty};
 ghost use Rattle.tree.specs.Tree.{Kept, files, Numbered};
 
 use meaning::{Place, Record};
+use std::array;
 
 mod field;
 mod judge;
@@ -16,8 +17,9 @@ pub use field::{
     created, given, given_text, is_dir, is_entry, restated, stamped, truncated, written,
 };
 pub use judge::{applies, judge_create, judge_remove, judge_truncate, judge_write, judge_wstat};
-pub use keys::{Found, close_key, close_slot, find, find_near, open_key, open_slot};
+pub use keys::{close_at, find, find_near, open_at};
 
+// Arrays and a count, for there is no heap; paths and slots apart, so that a search reads paths alone.
 #[derive(Clone, Copy)]
 pub struct Tree {
     /// Each in a slot of its own.
@@ -33,20 +35,7 @@ pub struct Tree {
 pub fn bare() -> Tree
     ensures { (files result ≡ root ∷ []) × Kept result }
 {
-    let z = Place { at: 0, len: 0 };
-    let r = Record {
-        path: 0,
-        parent: 0,
-        perm: 0x800001ed,
-        length: 0,
-        cvers: 0,
-        mtime: 0,
-        name: z,
-        uid: z,
-        gid: z,
-        muid: z,
-    };
-    let s = numbered();
+    let nothing = Place { at: 0, len: 0 };
     let empty = Record {
         path: 0,
         parent: 0,
@@ -54,18 +43,21 @@ pub fn bare() -> Tree
         length: 0,
         cvers: 0,
         mtime: 0,
-        name: z,
-        uid: z,
-        gid: z,
-        muid: z,
+        name: nothing,
+        uid: nothing,
+        gid: nothing,
+        muid: nothing,
     };
     // Slots of zeros are filled many bytes at a time.
     let mut records = [empty; 256];
-    records[0] = r;
+    records[0] = Record {
+        perm: 0x800001ed,
+        ..empty
+    };
     Tree {
         records,
-        keys: [0u32; 256],
-        slots: s,
+        keys: [0; 256],
+        slots: numbered(),
         count: 1,
     }
 }
@@ -74,29 +66,18 @@ pub fn bare() -> Tree
 fn numbered() -> [u32; 256]
     ensures { Numbered result 256 }
 {
-    let mut slots = [0u32; 256];
-    let mut k: usize = 0;
-    while k < 256 {
-        slots[k] = k as u32;
-        k += 1;
-    }
-    slots
+    array::from_fn(|k| k as u32)
 }
 
-/// No record is an entry of directory p. By value: only the remove of a directory asks.
-pub fn is_empty(t: Tree, p: u32) -> bool
-    requires { Kept t }
-    ensures { result ≡ is_empty p (files t) }
+/// No record is an entry of directory p.
+pub fn is_empty(t: &Tree, p: u32) -> bool
+    requires { Kept t.now }
+    ensures { result ≡ is_empty p (files t.now) }
 {
-    let n = t.count;
-    let mut k: usize = 0;
-    while k < n {
-        let s = t.slots[k] as usize;
-        let f = t.records[s];
-        if is_entry(f, p) {
+    for s in &t.slots[..t.count] {
+        if is_entry(t.records[*s as usize], p) {
             return false;
         }
-        k += 1;
     }
     true
 }

@@ -99,36 +99,18 @@ past_bits mask p l h =
     let b : mask < 2 ^ p = omega arith in
     sym (ap (λ (k : ℕ). eqb (k % 2) 1) (div-eq_of_lt b))
 
--- mask holds the places below p, and bit is 2^p
-pub record Summed (f : ℕ → Bool) (n mask bit p : ℕ) : Type 0 where
-  pub within : p ≤ n
-  pub bit_at : bit ≡ 2 ^ p
-  pub sum : mask ≡ page_bits p f
-
 module _ (f : ℕ → Bool) (n : ℕ) where
-  pub sum_start : Summed f n 0 1 0
-  unfolding page_bits
-  sum_start = record { within = omega arith; bit_at = refl; sum = refl }
+  pub bits_on : f n ≡ true → page_bits (n + 1) f ≡ page_bits n f + 2 ^ n
+  unfolding page_bits if_true
+  bits_on e = rw (add-one, page_bits, e)
 
-  module _ (mask bit p : ℕ) (s : Summed f n mask bit p) where
-    pub sum_low : n ≤ 32 → (mask < bit) × (bit ≤ 2 ^ 32)
-    sum_low h =
-        let w : p ≤ 32 = omega (arith, s.within) in
-        let m : 2 ^ p ≤ 2 ^ 32 = pow_mono w in
-        (omega (arith, bits_below f p, s.bit_at, s.sum), omega (arith, s.bit_at))
+  pub bits_off : f n ≡ false → page_bits (n + 1) f ≡ page_bits n f
+  unfolding page_bits if_true
+  bits_off e = rw (add-one, page_bits, e) (omega arith)
 
-    pub sum_more : {w : ℕ} → p < n → w ≡ if_true (f p) bit 0 → Summed f n (mask + w) (bit * 2) (p + 1)
-    unfolding page_bits
-    sum_more {w} h e = record {
-      within = omega arith;
-      bit_at = let d : bit * 2 ≡ 2 ^ p + 2 ^ p = omega (arith, s.bit_at) in d ∙ sym (two-pow-succ p) ∙ ap (λ (k : ℕ). 2 ^ k) (sym (add-one p));
-      sum = ap₂ ◌+◌ s.sum (e ∙ ap (λ (k : ℕ). if_true (f p) k 0) s.bit_at) ∙ ap (λ (k : ℕ). page_bits k f) (sym (add-one p));
-    }
+-- the bit of a place is a power of two, and fits over those below
+pub bit_low : (p : ℕ) → p < 32 → 1 * 2 ^ p % 4294967296 ≡ 2 ^ p
+bit_low p h = let k : suc p ≤ 32 = omega arith in let m : 2 ^ suc p ≤ 2 ^ 32 = pow_mono k in omega (arith, two-pow-succ p, pow_pos p)
 
-    pub sum_done : n ≤ p → mask ≡ page_bits n f
-    sum_done h = let e : p ≡ n = omega (arith, s.within) in s.sum ∙ ap (λ (k : ℕ). page_bits k f) e
-
-pub weight_less : (b : Bool) (x w : ℕ) → w ≡ if_true b x 0 → w ≤ x
-unfolding if_true
-weight_less true x w e = omega arith
-weight_less false x w e = omega arith
+pub bits_fit : (f : ℕ → Bool) (p : ℕ) → p < 32 → page_bits p f + 2 ^ p < 2 ^ 32
+bits_fit f p h = let k : suc p ≤ 32 = omega arith in let m : 2 ^ suc p ≤ 2 ^ 32 = pow_mono k in omega (arith, two-pow-succ p, bits_below f p)

@@ -14,10 +14,9 @@ use Rattle.meaning.specs.declared.Geometry.{Geometry}
 use Rattle.meaning.specs.declared.Extent.{Extent}
 use Rattle.meaning.specs.declared.Plan.{Plan}
 use Rattle.meaning.specs.declared.Tag.TheVariants.{Log, Data}
-use Rattle.meaning.specs.Flash.{Labels, Lent, fits, good_geometry, labels_of, r_of, same_tag}
+use Rattle.meaning.specs.Flash.{Labels, Lent, fits, good_geometry, labels_of, r_of}
 use Rattle.meaning.specs.Labels.{counts, dropped, log_plan, older, view}
 use Rattle.meaning.specs.Mount.{erase_list, idle, is_dropped, is_idle, to_erase}
-use Rattle.label.proofs.Sure.{and_no_r, and_on_r, eq_here, ne_here, sure}
 use Rattle.used.specs.Needed.{over}
 use Rattle.used.specs.Bits.{listed, padded, used_bits}
 use Rattle.used.specs.Erase.{erasable, erase_by, erase_of, unused}
@@ -28,20 +27,7 @@ use Rattle.used.proofs.Masks.{listed_at, mask_idle, masks_are, pad_more, pad_non
 
 -- ---- one block
 
--- c says whether block i, which is no older copy, is of tag Data
-pub data_counts : {c : Bool} (n : ℕ) (m : Labels) (i : ℕ) → (i < n) × (false ≡ older n m i) → c ≡ same_tag (m.tag i) Data → c ≡ counts n m Data i
-unfolding counts
-data_counts n m i h e = let l : i < n = h.0 in let o : false ≡ older n m i = h.1 in search sure
-
-module _ (n : ℕ) (m : Labels) (mask i : ℕ) where
-  pub unused_no : 0 < mask → false ≡ unused n m mask i
-  unfolding unused
-  unused_no h = and_no_r (counts n m Data i) (eqb mask 0) (ne_here mask 0 (λ (e : mask ≡ 0). omega arith))
-
-  pub unused_on : {c : Bool} → mask ≡ 0 → c ≡ counts n m Data i → c ≡ unused n m mask i
-  unfolding unused
-  unused_on e f = and_on_r (counts n m Data i) (eqb mask 0) f (eq_here mask 0 e)
-
+-- v and mask are the code's answers
 pub told_of : {v : Bool} {mask : ℕ} (n : ℕ) (m : Labels) (p : Plan) (masks : List ℕ) (i : ℕ) → v ≡ erasable n m p mask i → mask ≡ get_or masks i 0
     → v ≡ erasable n m p (get_or masks i 0) i
 told_of n m p masks i e f = e ∙ ap (λ (k : ℕ). erasable n m p k i) f

@@ -1,19 +1,20 @@
 -- The used pages of one block, and those of all: a list that is written from its start on, 0 past its end.
 use mathlib.Core.Path.{◌≡◌, refl, sym, ap, ap₂, ◌∙◌}
 use mathlib.Core.Bool.{Bool, true, false}
-use mathlib.Core.Logic.{inl, inr}
+use mathlib.Core.Logic.{inl, inr, ⊎_elim}
 use mathlib.Core.Option.{some}
 use mathlib.Core.List.{List, [], ◌∷◌, ◌++◌, append_assoc, append-nil}
-use Prim.Native.Nat.{ℕ, zero, suc, ◌+◌, ◌-◌, ◌/◌, ◌≤◌, ◌<◌}
+use Prim.Native.Nat.{ℕ, zero, suc, ◌+◌, ◌-◌, ◌/◌, ◌≤◌, ◌<◌, min}
 use native.Mathlib.Nat.{add-zero, add-suc, sub-zero, not-suc-le-zero, le_of_suc-le-suc, eq-or-lt_of_le}
 use native.Mathlib.Numerals.{add-one}
 use native.Mathlib.Omega.{arith}
 use lib.ListN.{length, get_or, set, take, replicate, length-append, length-replicate, replicate-append-replicate, get_or-append}
 use lib.Seq.{set_at, take_at, get_or_at}
 use lib.Dec.{eqb}
-use borrow.Author.Tests.{le-ltb, not-true, not-false}
+use borrow.Author.Tests.{le-ltb}
 use Rattle.base.specs.Choice.{on_some, provided}
 use Rattle.base.specs.Scan.{places}
+use Rattle.base.proofs.Tests.{lt_or}
 use Rattle.meaning.specs.declared.Geometry.{Geometry}
 use Rattle.meaning.specs.declared.Extent.{Extent}
 use Rattle.meaning.specs.declared.Tag.TheVariants.{Data}
@@ -41,8 +42,6 @@ module _ {c : Bool} (n : ℕ) (g : Geometry) (m : Labels) (xs : List Extent) (i 
 pub past_all : (n : ℕ) (g : Geometry) (m : Labels) (xs : List Extent) (i : ℕ) → n ≤ i → used_bits (over n g) m xs i ≡ 0
 unfolding used_bits view on_some provided counts
 past_all n g m xs i h = rw (le-ltb i n h)
-
-pub ruleset blocks = (block_off, block_on, not-true, not-false)
 
 -- ---- for callers: what a block's mask says
 
@@ -142,3 +141,8 @@ module _ (f : ℕ → ℕ) where
   list_short n i masks e h z =
       let k : i + (n - i) ≡ n = omega arith in
       e ∙ ap (λ (j : ℕ). listed i f ++ replicate (n - j) 0) (listed_length i f) ∙ sym (zeros i (n - i) z) ∙ ap (λ (j : ℕ). listed j f) k
+
+  -- the first n places, or as many as there are
+  pub list_done : (n len i : ℕ) (masks : List ℕ) → masks ≡ padded n (listed i f) → i ≡ min len n → ((k : ℕ) → len ≤ k → f k ≡ 0) → masks ≡ listed n f
+  list_done n len i masks e h z = ⊎_elim (λ (l : len < n). list_short n i masks e (omega arith) (λ k q. z k (omega arith)))
+      (λ (l : n ≤ len). list_full n i masks e (omega arith)) (lt_or len n)

@@ -10,7 +10,8 @@ use native.Mathlib.Omega.{arith}
 use lib.ListN.{length, length-replicate, length-set, get_or, get_or-replicate, set, replicate, drop, drop_of_length-le}
 use lib.Seq.{drop-cons, get_or-set_other}
 use lib.Dec.{T}
-use borrow.Author.Tests.{le-leb, lt-leb, not-true, not-false}
+use Rattle.std.specs.Prelude as std
+use Rattle.std.specs.Prelude.{Some, None}
 use Rattle.base.specs.Choice.{is_some, or_else, provided}
 use Rattle.base.proofs.Tests.{T-yes, eq_or, not_both, tests}
 use Rattle.meaning.specs.declared.Geometry.{Geometry}
@@ -18,16 +19,11 @@ use Rattle.meaning.specs.declared.Extent.{Extent}
 use Rattle.meaning.specs.declared.Block.{Block}
 use Rattle.meaning.specs.Flash.{Labels, Lent, block_size, fits}
 use Rattle.meaning.specs.Labels.{find_data}
-use Rattle.meaning.specs.Message.{in_log}
 use Rattle.meaning.specs.Mount.{absent, in_data, lacks}
 use Rattle.extent.specs.Rows.{extent_of}
 use Rattle.label.specs.Search.{found}
-use Rattle.label.specs.declared.Found.{Found}
-use Rattle.label.specs.declared.Found.TheVariants.{At, Nothing}
 use Rattle.label.proofs.Answered.{at_some, nothing_none}
 use Rattle.used.specs.Needed.{over, refusal_of, Seen}
-use Rattle.used.specs.declared.Missing.{Missing}
-use Rattle.used.specs.declared.Missing.TheVariants as missing
 
 -- ---- for callers
 
@@ -40,27 +36,19 @@ pub over_is : (g : Geometry) (l : Lent) → fits g l ≡ true → over (length l
 over_is g l e = let h : length l.tags ≡ g.blocks = fit_tags g l e in λ j. record { size = g.size; pages = g.pages; blocks = h j }
 
 -- where the slices fit, the answer is meaning's
-pub absent_is : (r : Missing) (g : Geometry) (l : Lent) (m : Labels) (xs : List Extent) → fits g l ≡ true
+pub absent_is : (r : std.Option ℕ) (g : Geometry) (l : Lent) (m : Labels) (xs : List Extent) → fits g l ≡ true
     → refusal_of r ≡ absent (over (length l.tags) g) m xs → refusal_of r ≡ absent g m xs
 absent_is r g l m xs f e = e ∙ ap (λ (h : Geometry). absent h m xs) (over_is g l f)
 
 -- two answers that stand for the same refusal are equal
-pub one_missing : (a b : Missing) → refusal_of a ≡ refusal_of b → a ≡ b
+pub one_missing : (a b : std.Option ℕ) → refusal_of a ≡ refusal_of b → a ≡ b
 unfolding refusal_of
-one_missing missing.Nothing missing.Nothing e = refl
-one_missing missing.Nothing (missing.Path p) e = cc
-one_missing (missing.Path p) missing.Nothing e = cc
-one_missing (missing.Path p) (missing.Path q) e = cc
+one_missing None None e = refl
+one_missing None (Some p) e = cc
+one_missing (Some p) None e = cc
+one_missing (Some p) (Some q) e = cc
 
 -- ---- one extent
-
-pub data_yes : (e : Extent) → e.address < 2147483648 → true ≡ in_data e
-unfolding in_data in_log
-data_yes e h = rw (lt-leb (2 ^ 31) e.address h)
-
-pub data_no : (e : Extent) → 2147483648 ≤ e.address → false ≡ in_data e
-unfolding in_data in_log
-data_no e h = rw (le-leb (2 ^ 31) e.address h)
 
 module _ {v : Bool} (n : ℕ) (g : Geometry) (m : Labels) (e : Extent) (d : v ≡ in_data e) where
   pub lacks_log : v ≡ false → false ≡ lacks (over n g) m e
@@ -74,19 +62,17 @@ module _ {v : Bool} (n : ℕ) (g : Geometry) (m : Labels) (e : Extent) (d : v �
         let u : a / block_size g ≡ e.address / s = ap (λ (b : ℕ). a / b) (sym z) ∙ ap (λ (b : ℕ). b / s) p in
         omega (arith, div-le_self e.address s)
 
-    pub lacks_not : {x : Found} {b : Block} → x ≡ found (find_data n m k) → x ≡ At b → false ≡ lacks (over n g) m e
+    pub lacks_not : {x : std.Option Block} {b : Block} → x ≡ found (find_data n m k) → x ≡ Some b → false ≡ lacks (over n g) m e
     unfolding lacks is_some block_size
     lacks_not f r = rw (← d, q, ← number (block_size g) refl, at_some _ f r)
 
-    pub lacks_all : {x : Found} → x ≡ found (find_data n m k) → x ≡ Nothing → true ≡ lacks (over n g) m e
+    pub lacks_all : {x : std.Option Block} → x ≡ found (find_data n m k) → x ≡ None → true ≡ lacks (over n g) m e
     unfolding lacks is_some block_size
     lacks_all f r = rw (← d, q, ← number (block_size g) refl, nothing_none _ f r)
 
     pub lacks_seen : is_some (find_data n m k) ≡ true → false ≡ lacks (over n g) m e
     unfolding lacks block_size
     lacks_seen t = rw (← d, q, ← number (block_size g) refl, t)
-
-pub ruleset lacking = (data_yes, data_no, lacks_log, lacks_not, lacks_all, not-true, not-false)
 
 -- ---- the numbers that were found before
 
@@ -101,9 +87,11 @@ module _ (n : ℕ) (m : Labels) (seen : List Bool) (z : Seen n m seen) where
   )
 
 -- the number that was found is there
-pub is_there : {x : Found} {b : Block} (n : ℕ) (m : Labels) (k : ℕ) → x ≡ found (find_data n m k) → x ≡ At b → is_some (find_data n m k) ≡ true
+pub is_there : {x : std.Option Block} {b : Block} (n : ℕ) (m : Labels) (k : ℕ) → x ≡ found (find_data n m k) → x ≡ Some b → is_some (find_data n m k) ≡ true
 unfolding is_some
 is_there n m k f r = rw (at_some _ f r)
+
+pub ruleset lacking = (lacks_log, lacks_not, lacks_all, lacks_seen, seen_more, is_there)
 
 -- ---- one extent after another: what is left decides
 
@@ -122,12 +110,12 @@ module _ (g : Geometry) (m : Labels) (rows : List (List ℕ)) where
   passed_more k p h e f = p ∙ here k h ∙ rw (← e, f)
 
   pub passed_hit : {v : Bool} (k : ℕ) → Passed k → k < length rows → v ≡ lacks g m (extent_of (row k)) → v ≡ true
-      → refusal_of (missing.Path (get_or (row k) 0 0)) ≡ absent g m (map extent_of rows)
+      → refusal_of (Some (get_or (row k) 0 0)) ≡ absent g m (map extent_of rows)
   unfolding absent or_else provided refusal_of
   passed_hit k p h e f = sym (p ∙ here k h ∙ rw (← e, f))
 
-  pub passed_all : (k : ℕ) → Passed k → length rows ≤ k → refusal_of missing.Nothing ≡ absent g m (map extent_of rows)
+  pub passed_all : (k : ℕ) → Passed k → length rows ≤ k → refusal_of None ≡ absent g m (map extent_of rows)
   unfolding absent refusal_of
   passed_all k p h = sym (p ∙ rw (drop_of_length-le rows h))
 
-pub ruleset passes = (passed_more, passed_hit, passed_all, not-true, not-false)
+pub ruleset passes = (passed_more, passed_hit, passed_all)

@@ -7,18 +7,20 @@ use Prim.Native.Nat.{ℕ, suc, ◌+◌, ◌-◌, ◌*◌, ◌/◌, ◌≤◌, �
 use native.Mathlib.Nat.{mul-le-mul, mul-le-mul_left, mul-le-mul_right, div-lt_iff_lt-mul, le-div_iff_mul-le, div-le_of_le-mul, div-le_self, lt-div-mul-add}
 use native.Mathlib.Numerals.{add-one}
 use native.Mathlib.Omega.{arith}
-use lib.ListN.{length, get_or, set, drop, replicate, length-set, get_or-replicate, drop_of_length-le}
-use lib.Seq.{drop-cons, get_or-set_same, get_or-set_other}
+use borrow.Rule.Slice.PartMut.{put_mid}
+use Rattle.std.proofs.lemmas.Grind.{common_steps}
+use lib.ListN.{length, get_or, take, drop, replicate, get_or-replicate, drop_of_length-le}
+use lib.Seq.{drop-cons}
 use lib.Dec.{T, ltb, leb, ltb→lt, lt→ltb, leb→le, le→leb}
 use Rattle.base.specs.Scan.{any_of}
-use Rattle.base.proofs.Tests.{T-yes, T-ext, is_true, is_false, and_l, and_r, and_i, eq_or, lt_or}
+use Rattle.base.proofs.Tests.{T-yes, T-ext, is_true, is_false, and_l, and_r, and_i, lt_or}
 use Rattle.meaning.specs.declared.Geometry.{Geometry}
 use Rattle.meaning.specs.declared.Extent.{Extent}
 use Rattle.meaning.specs.Flash.{address_of, block_size}
 use Rattle.meaning.specs.Mount.{in_data, touches, used}
 use Rattle.extent.specs.Rows.{extent_of}
 use Rattle.used.specs.Bits.{Flagged, Marked, Touched, among}
-use Rattle.used.specs.declared.Pages.{Pages}
+use Rattle.std.specs.declared.ops.Range.{Range}
 
 -- ---- sizes
 
@@ -40,6 +42,8 @@ some_size {block} g d e l = ⊎_elim (λ (h : 0 < g.size). h) (λ (h : g.size �
 pub page_low : {p : ℕ} (a b s : ℕ) → p ≡ (a - b) / s → p ≤ a
 page_low a b s e = omega (arith, div-le_self (a - b) s)
 
+pub ruleset sizes = (block_low, some_size, page_low)
+
 -- ---- pages from one up to another
 
 module _ (from past p : ℕ) where
@@ -60,8 +64,8 @@ module _ (from past p : ℕ) where
 
 -- ---- one extent and one block
 
-abbrev none : Pages
-none = record { from = 0; past = 0 }
+abbrev none : Range ℕ
+none = record { start = 0; end = 0 }
 
 -- no page is touched
 untouched : (g : Geometry) (d : ℕ) (e : Extent) → ((p : ℕ) → p < g.pages → T (touches g d p e) → ⊥) → Touched g d e none
@@ -128,7 +132,7 @@ module _ {block start count : ℕ} (g : Geometry) (d : ℕ) (e : Extent) (hb : b
   -- the first byte lies at `lo` and the last at `hi`, on the pages `from` and `last` of the block or outside it
   pub touched_here : {v : Bool} {from last : ℕ} (lo hi past : ℕ) → v ≡ in_data e → v ≡ true → start < d * block + block → d * block < start + count
       → from ≡ (lo - d * block) / g.size → last ≡ (hi - d * block) / g.size → lo ≡ start → hi ≡ start + count - 1 → past ≡ min (last + 1) g.pages
-      → Touched g d e (record { from = from; past = past })
+      → Touched g d e (record { start = from; end = past })
   unfolding block_size
   touched_here {v} {from} {last} lo hi past q f a b hf hl lo-is hi-is hp = record { order = order; most = omega arith; exact = λ p h. T-ext _ _ (into p h) (out p h) }
     where
@@ -186,25 +190,38 @@ or_false : (a : Bool) → (a || false) ≡ a
 or_false true = refl
 or_false false = refl
 
-module _ (from : ℕ) where
-  among_other : (p q : ℕ) → (p ≡ q → ⊥) → among from (q + 1) p ≡ among from q p
-  among_other p q f = T-ext _ _
-      (λ t. let b : p < q + 1 = among_past from (q + 1) p t in among_in from q p (among_from from (q + 1) p t) (omega arith))
-      (λ t. let b : p < q = among_past from q p t in among_in from (q + 1) p (among_from from q p t) (omega arith))
+-- the flags with those from one place up to another filled with true
+module _ (l : List Bool) (from past : ℕ) (h : from ≤ past) (i : past ≤ length l) where
+  abbrev part : ℕ
+  part = past - from
 
-  pub mark_start : (l : List Bool) → Marked l l from from
-  mark_start l = record { long = refl; exact = λ p h. same_or _ _ (among_out from from p (λ a. a)) }
+  abbrev after : List Bool
+  after = put_mid from part l (replicate part true)
 
-  pub mark_more : (l k : List Bool) (q : ℕ) → Marked l k from q → from ≤ q → q < length l → Marked l (set k q true) from (q + 1)
-  mark_more l k q m h b = record { long = length-set k q true ∙ m.long; exact = λ p a. ⊎_elim (λ (e : p ≡ q). here p a e) (λ (f : p ≡ q → ⊥). there p a f) (eq_or p q) }
-    where
-      here : (p : ℕ) → p < length l → p ≡ q → get_or (set k q true) p false ≡ (get_or l p false || among from (q + 1) p)
-      here p a e =
-          let c : q < length k = omega (arith, m.long) in
-          rw e (get_or-set_same k q true false c ∙ or_true (get_or l q false) (among from (q + 1) q) (is_true (among from (q + 1) q) (among_in from (q + 1) q h (omega arith))))
+  low : (p : ℕ) → p < length l → p < from → get_or after p false ≡ (get_or l p false || among from past p)
+  low p b a = grind (arith, common_steps, among_out from past p (λ c. a), or_false)
 
-      there : (p : ℕ) → p < length l → (p ≡ q → ⊥) → get_or (set k q true) p false ≡ (get_or l p false || among from (q + 1) p)
-      there p a f = get_or-set_other k q p true false f ∙ m.exact p a ∙ ap (λ (b : Bool). get_or l p false || b) (sym (among_other p q f))
+  mid : (p : ℕ) → p < length l → from ≤ p → p < past → get_or after p false ≡ (get_or l p false || among from past p)
+  mid p b a c =
+      let t : get_or after p false ≡ true = grind (arith, common_steps) in
+      t ∙ or_true _ _ (is_true _ (among_in from past p a c))
+
+  high : (p : ℕ) → p < length l → past ≤ p → get_or after p false ≡ (get_or l p false || among from past p)
+  high p b c =
+      let t : get_or after p false ≡ get_or l p false = grind (arith, common_steps) in
+      t ∙ same_or _ _ (among_out from past p (λ q. omega arith))
+
+  marked : Marked l after from past
+  marked = record {
+    long = grind (arith, common_steps);
+    exact = λ p b. ⊎_elim (λ (a : p < from). low p b a)
+        (λ (a : from ≤ p). ⊎_elim (λ (c : p < past). mid p b a c) (λ (c : past ≤ p). high p b c) (lt_or p past)) (lt_or p from);
+  }
+
+  pub marked_fill : {ys : List Bool} → ys ≡ replicate (length (take part (drop from l))) true → Marked l (put_mid from part l ys) from past
+  marked_fill e =
+      let n : length (take part (drop from l)) ≡ part = grind (arith, common_steps) in
+      subst (λ (ys : List Bool). Marked l (put_mid from part l ys) from past) (sym (e ∙ ap (λ (k : ℕ). replicate k true) n)) marked
 
 -- ---- one extent after another: the flags and what is left decide
 
@@ -219,8 +236,8 @@ module _ (g : Geometry) (rows : List (List ℕ)) (d : ℕ) where
   pub flags_start : g.pages ≤ 32 → Flags (replicate 32 false) 0
   flags_start l = record { long = refl; exact = λ p h. let b : p < 32 = omega arith in rw (unset p b) }
 
-  pub flags_more : {flags after : List Bool} {s : Pages} (k : ℕ) → Flags flags k → g.pages ≤ 32 → k < length rows → Touched g d (extent_of (get_or rows k [])) s
-      → Marked flags after s.from s.past → Flags after (k + 1)
+  pub flags_more : {flags after : List Bool} {s : Range ℕ} (k : ℕ) → Flags flags k → g.pages ≤ 32 → k < length rows → Touched g d (extent_of (get_or rows k [])) s
+      → Marked flags after s.start s.end → Flags after (k + 1)
   unfolding used any_of
   flags_more {flags} {after} {s} k f w l t m = record {
     long = m.long ∙ f.long;

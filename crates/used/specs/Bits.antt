@@ -7,7 +7,7 @@ use Rattle.meaning.specs.declared.Tag.TheVariants.{Data}
 use Rattle.meaning.specs.Flash.{Labels}
 use Rattle.meaning.specs.Labels.{view}
 use Rattle.meaning.specs.Mount.{touches, used}
-use Rattle.used.specs.declared.Pages.{Pages}
+use Rattle.std.specs.declared.ops.Range.{Range}
 
 -- the sum of 2^p for the places p below n that pass
 unfoldable pub page_bits : ℕ → (ℕ → Bool) → ℕ
@@ -38,10 +38,10 @@ unfoldable pub among : ℕ → ℕ → ℕ → Bool
 among from past p = leb from p && ltb p past
 
 -- s are the pages of data block d that e touches
-pub record Touched (g : Geometry) (d : ℕ) (e : Extent) (s : Pages) : Type 0 where
-  pub order : s.from ≤ s.past
-  pub most : s.past ≤ g.pages
-  pub exact : (p : ℕ) → p < g.pages → touches g d p e ≡ among s.from s.past p
+pub record Touched (g : Geometry) (d : ℕ) (e : Extent) (s : Range ℕ) : Type 0 where
+  pub order : s.start ≤ s.end
+  pub most : s.end ≤ g.pages
+  pub exact : (p : ℕ) → p < g.pages → touches g d p e ≡ among s.start s.end p
 
 -- the flags are those before, with the pages from one up to another set
 pub record Marked (before after : List Bool) (from past : ℕ) : Type 0 where

@@ -2,156 +2,105 @@
 // rows [path, offset, count, address], as the crate extent keeps them.
 #![tactic(auto)]
 
-ghost use Rattle.std.specs.Prelude.{◌≡◌, false, map, ◌+◌, ◌-◌, ◌/◌, ◌<◌, ◌≤◌, ◌^◌, min, length, get_or};
-ghost use Rattle.base.specs.Choice.{if_true};
-ghost use Rattle.meaning.specs.Flash.{labels_of};
+ghost use Rattle.std.specs.Prelude.{◌≡◌, [], false, map, ◌+◌, ◌-◌, ◌/◌, ◌<◌, ◌≤◌, ◌^◌, min, length, get_or};
 ghost use Rattle.meaning.specs.Labels.{older};
 ghost use Rattle.meaning.specs.Mount.{absent as the_absent, in_data, lacks as the_lacks};
+ghost use Rattle.label.specs.Lent.{blocks, labels};
 ghost use Rattle.extent.specs.Rows.{extent_of};
 ghost use Rattle.used.specs.Needed.{over, refusal_of, Seen};
 ghost use Rattle.used.specs.Bits.{Flagged, Marked, Touched, has_page, listed, page_bits, used_bits};
 ghost use Rattle.used.specs.Erase.{erasable, erase_by, erase_of, unused};
 
-use label::Found;
+use label::Flash;
 use meaning::{Address, Block, Geometry, Plan, Tag};
+use std::ops::Range;
 
-fn wide(x: u32) -> u64
-    ensures { (result ≡ x) × (x < 2 ^ 32) }
-{
-    x as u64
-}
+// Bit 31 of an address: it is one in the log.
+const IN_LOG: u32 = 2147483648;
 
-// Whether an extent's bytes stand in a data block: bit 31 of its address is clear.
+// Data blocks are numbered below 2^33, as paths are below 2^34. No extent reaches further.
+const NUMBERS: u64 = 8589934592;
+
+// Whether an extent's bytes stand in a data block.
+#[tactic(auto, unfolding(meaning::specs::Mount::in_data, meaning::specs::Message::in_log))]
 fn in_data(row: [u32; 4]) -> bool
     ensures { result ≡ in_data (extent_of row) }
 {
-    if row[3] < 2147483648 {
-        return true;
-    }
-    false
+    row[3] < IN_LOG
 }
 
 // ---- the data that is needed
 
-/// The path of a file whose data is absent, or none.
-#[derive(Clone, Copy)]
-pub enum Missing {
-    Nothing,
-    Path(u32),
-}
-
 // An extent whose block was found before is not looked for again: many extents stand in few blocks.
-fn lacks(g: Geometry, tags: &[u8], paths: &[u64], seen: &mut [bool; 4096], row: [u32; 4]) -> bool
-    requires { Seen (length tags.now) (labels_of tags.now paths.now) seen.old }
-    ensures { (result ≡ the_lacks (over (length tags.now) g) (labels_of tags.now paths.now) (extent_of row)) × Seen (length tags.now) (labels_of tags.now paths.now) seen.new }
+#[tactic(auto, using(crate::proofs::Needed::lacking))]
+fn lacks(flash: &Flash, seen: &mut [bool; 4096], row: [u32; 4]) -> bool
+    requires { Seen (blocks flash.now) (labels flash.now) seen.old }
+    ensures { (result ≡ the_lacks (over (blocks flash.now) flash.now.geometry) (labels flash.now) (extent_of row)) × Seen (blocks flash.now) (labels flash.now) seen.new }
 {
     if !in_data(row) {
         return false;
     }
-    let n = label::number_at(g, Address(wide(row[3])));
+    let n = label::number_at(flash.geometry, Address(u64::from(row[3])));
     let d = n.0 as usize;
+    if d < 4096 && seen[d] {
+        return false;
+    }
+    if flash.find_data(n).is_none() {
+        return true;
+    }
     if d < 4096 {
-        if seen[d] {
-            return false;
-        }
+        seen[d] = true;
     }
-    match label::find_data(tags, paths, n) {
-        Found::Nothing => true,
-        Found::At(_) => {
-            if d < 4096 {
-                seen[d] = true;
-            }
-            return false;
-        }
-    }
+    false
 }
 
-/// DATA: "a live extent's data block is absent". Extents ascend by path, so the first has the lowest.
-pub fn absent(g: Geometry, tags: &[u8], paths: &[u64], xs: &[[u32; 4]]) -> Missing
-    ensures { refusal_of result ≡ the_absent (over (length tags.now) g) (labels_of tags.now paths.now) (map extent_of xs.now) }
+/// DATA: "a live extent's data block is absent": the path of the first such. Extents ascend by path, so it is the lowest.
+#[tactic(auto, using(crate::proofs::Needed::passes))]
+pub fn absent(flash: &Flash, xs: &[[u32; 4]]) -> Option<u32>
+    ensures { refusal_of result ≡ the_absent (over (blocks flash.now) flash.now.geometry) (labels flash.now) (map extent_of xs.now) }
 {
     let mut seen = [false; 4096];
-    let mut k = 0;
-    while k < xs.len() {
-        let row = xs[k];
-        if lacks(g, tags, paths, &mut seen, row) {
-            return Missing::Path(row[0]);
+    // A `for`: the closure of a `find` would change the marks, and nothing would be known of them.
+    for row in xs {
+        if lacks(flash, &mut seen, *row) {
+            return Some(row[0]);
         }
-        k += 1;
     }
-    Missing::Nothing
+    None
 }
 
 // ---- used pages
 
-// The pages of a block from one up to another.
-#[derive(Clone, Copy)]
-struct Pages {
-    from: usize,
-    past: usize,
-}
-
-// The page of the block that begins at `begin` in which an address lies; the first where it lies before.
-fn page_in(size: u64, begin: u64, a: u64) -> u64
-    requires { 0 < size }
-    ensures { result ≡ (a - begin) / size }
-{
-    if a < begin {
-        return 0;
-    }
-    (a - begin) / size
-}
-
-fn at_most(a: u64, b: u64) -> u64
-    ensures { result ≡ min a b }
-{
-    if a < b {
-        return a;
-    }
-    b
-}
-
 // The pages of data block d that an extent touches, by overlap of addresses. Two comparisons pass over an extent that touches
-// none. No extent reaches a block of number 2^33 or above.
-fn touched(g: Geometry, d: u64, row: [u32; 4]) -> Pages
+// none.
+#[tactic(auto, using(crate::proofs::Touch::sizes))]
+fn touched(g: Geometry, d: u64, row: [u32; 4]) -> Range<usize>
     requires { g.pages ≤ 32 }
     ensures { Touched g d (extent_of row) result }
 {
-    let start = wide(row[3]);
-    let end = start + wide(row[2]);
-    if 8589934592 <= d {
-        return Pages { from: 0, past: 0 };
+    let count = row[2];
+    let start = u64::from(row[3]);
+    let end = start + u64::from(count);
+    if NUMBERS <= d {
+        return 0..0;
     }
     let block = label::block_size(g);
     let begin = d * block;
-    if begin + block <= start {
-        return Pages { from: 0, past: 0 };
+    if begin + block <= start || end <= begin || !in_data(row) {
+        return 0..0;
     }
-    if end <= begin {
-        return Pages { from: 0, past: 0 };
-    }
-    if !in_data(row) {
-        return Pages { from: 0, past: 0 };
-    }
-    let size = g.size as u64;
-    let from = page_in(size, begin, start);
-    let last = page_in(size, begin, end - 1);
-    let past = at_most(last + 1, g.pages as u64);
-    Pages {
-        from: from as usize,
-        past: past as usize,
-    }
+    let size = u64::from(g.size);
+    let from = start.saturating_sub(begin) / size;
+    let last = (end - 1).saturating_sub(begin) / size;
+    let past = (last + 1).min(u64::from(g.pages));
+    from as usize..past as usize
 }
 
-fn mark(flags: &mut [bool; 32], from: usize, past: usize)
-    requires { (from ≤ past) × (past ≤ 32) × (length flags.old ≡ 32) }
-    ensures { Marked flags.old flags.new from past }
+fn mark(flags: &mut [bool; 32], pages: Range<usize>)
+    requires { (pages.start ≤ pages.end) × (pages.end ≤ 32) × (length flags.old ≡ 32) }
+    ensures { Marked flags.old flags.new pages.start pages.end }
 {
-    let mut p = from;
-    while p < past {
-        flags[p] = true;
-        p += 1;
-    }
+    flags[pages.start..pages.end].fill(true);
 }
 
 // Which pages of data block d are used: one pass over the extents.
@@ -160,81 +109,65 @@ fn flags_of(g: Geometry, xs: &[[u32; 4]], d: u64) -> [bool; 32]
     ensures { Flagged g (map extent_of xs.now) d result }
 {
     let mut flags = [false; 32];
-    let mut k = 0;
-    while k < xs.len() {
-        let row = xs[k];
-        let s = touched(g, d, row);
-        mark(&mut flags, s.from, s.past);
-        k += 1;
+    for row in xs {
+        mark(&mut flags, touched(g, d, *row));
     }
     flags
 }
 
-fn weight(on: bool, bit: u64) -> u64
-    ensures { result ≡ if_true on bit 0 }
-{
-    if on {
-        return bit;
-    }
-    0
-}
-
+#[tactic(auto, unfolding(crate::specs::Bits::page_bits))]
 fn mask_of(flags: [bool; 32], n: usize) -> u32
     requires { n ≤ 32 }
     ensures { result ≡ page_bits n (λ p. get_or flags p false) }
 {
-    let mut mask: u64 = 0;
-    let mut bit: u64 = 1;
-    let mut p = 0;
-    while p < n {
-        mask += weight(flags[p], bit);
-        bit *= 2;
-        p += 1;
+    let mut mask = 0;
+    for p in 0..n {
+        if flags[p] {
+            mask += 1 << p;
+        }
     }
-    mask as u32
+    mask
 }
 
-fn block_bits(g: Geometry, tags: &[u8], paths: &[u64], xs: &[[u32; 4]], b: Block) -> u32
-    requires { g.pages ≤ 32 }
-    ensures { result ≡ used_bits (over (length tags.now) g) (labels_of tags.now paths.now) (map extent_of xs.now) b.0 }
+#[tactic(auto, using(crate::proofs::Masks::block_off, crate::proofs::Masks::block_on))]
+fn block_bits(flash: &Flash, xs: &[[u32; 4]], b: Block) -> u32
+    requires { flash.now.geometry.pages ≤ 32 }
+    ensures { result ≡ used_bits (over (blocks flash.now) flash.now.geometry) (labels flash.now) (map extent_of xs.now) b.0 }
 {
-    if !label::counts(tags, paths, Tag::Data, b) {
+    if !flash.counts(Tag::Data, b) {
         return 0;
     }
-    let d = label::path_at(tags, paths, b) / 4;
-    mask_of(flags_of(g, xs, d), g.pages as usize)
+    let d = flash.path_at(b) / 4;
+    mask_of(
+        flags_of(flash.geometry, xs, d),
+        flash.geometry.pages as usize,
+    )
 }
 
 /// The used pages of each physical block, a bit a page; 0 past the last block.
-pub fn used_bits(g: Geometry, tags: &[u8], paths: &[u64], xs: &[[u32; 4]]) -> [u32; 1024]
-    requires { g.pages ≤ 32 }
-    ensures { result ≡ listed 1024 (used_bits (over (length tags.now) g) (labels_of tags.now paths.now) (map extent_of xs.now)) }
+#[tactic(auto, using(crate::proofs::Masks::list_more))]
+pub fn used_bits(flash: &Flash, xs: &[[u32; 4]]) -> [u32; 1024]
+    requires { flash.now.geometry.pages ≤ 32 }
+    ensures { result ≡ listed 1024 (used_bits (over (blocks flash.now) flash.now.geometry) (labels flash.now) (map extent_of xs.now)) }
 {
     let mut masks = [0; 1024];
-    let mut i = 0;
-    while i < 1024 {
-        if tags.len() <= i {
-            return masks;
-        }
-        masks[i] = block_bits(g, tags, paths, xs, Block(i));
-        i += 1;
+    for i in 0..flash.tags.len().min(1024) {
+        masks[i] = block_bits(flash, xs, Block(i));
     }
     masks
 }
 
 /// Whether page p is set in a block's used pages.
+#[tactic(auto, using(crate::proofs::Bits::past_bits), unfolding(crate::specs::Bits::has_page))]
 pub fn has_page(mask: u32, p: usize) -> bool
     ensures { result ≡ has_page mask p }
 {
-    if 32 <= p {
-        return false;
-    }
-    (mask >> p) % 2 == 1
+    p < 32 && (mask >> p) % 2 == 1
 }
 
 // ---- the erase list
 
-/// Physical blocks, ascending: the first `count` places.
+/// Physical blocks, ascending: the first `count` places. An array and a count, as a host in C takes it.
 #[repr(C)]
 #[derive(Drop)]
 pub struct Erase {
@@ -242,55 +175,50 @@ pub struct Erase {
     pub count: usize,
 }
 
-fn mask_at(masks: &[u32], i: usize) -> u32
-    ensures { result ≡ get_or masks.now i 0 }
-{
-    if i < masks.len() {
-        return masks[i];
+impl Erase {
+    /// No block.
+    pub fn none() -> Erase
+        ensures value { result ≡ erase_of [] }
+        ensures nothing { result.count ≡ 0 }
+    {
+        Erase {
+            blocks: [0; 1024],
+            count: 0,
+        }
     }
-    0
 }
 
 // "Data blocks with no used page". An older copy is not asked.
-#[tactic(auto, using(crate::proofs::Erasable::unused_no))]
-fn is_unused(tags: &[u8], paths: &[u64], mask: u32, b: Block) -> bool
-    requires { (b.0 < length tags.now) × (false ≡ older (length tags.now) (labels_of tags.now paths.now) b.0) }
-    ensures { result ≡ unused (length tags.now) (labels_of tags.now paths.now) mask b.0 }
+#[tactic(auto, unfolding(crate::specs::Erase::unused, meaning::specs::Labels::counts))]
+fn is_unused(flash: &Flash, mask: u32, b: Block) -> bool
+    requires { (b.0 < blocks flash.now) × (false ≡ older (blocks flash.now) (labels flash.now) b.0) }
+    ensures { result ≡ unused (blocks flash.now) (labels flash.now) mask b.0 }
 {
-    if 0 < mask {
-        return false;
-    }
-    label::is_tag(tags, paths, Tag::Data, b)
+    mask == 0 && flash.is_tag(Tag::Data, b)
 }
 
 // The caller says whether block b is an older copy.
-fn is_erasable(tags: &[u8], paths: &[u64], p: Plan, old: bool, mask: u32, b: Block) -> bool
-    requires { (b.0 < length tags.now) × (old ≡ older (length tags.now) (labels_of tags.now paths.now) b.0) }
-    ensures { result ≡ erasable (length tags.now) (labels_of tags.now paths.now) p mask b.0 }
+#[tactic(auto, unfolding(crate::specs::Erase::erasable))]
+fn is_erasable(flash: &Flash, p: Plan, old: bool, mask: u32, b: Block) -> bool
+    requires { (b.0 < blocks flash.now) × (old ≡ older (blocks flash.now) (labels flash.now) b.0) }
+    ensures { result ≡ erasable (blocks flash.now) (labels flash.now) p mask b.0 }
 {
-    if old {
-        return true;
-    }
-    if plan::is_dropped(tags, paths, p, b) {
-        return true;
-    }
-    is_unused(tags, paths, mask, b)
+    old || plan::is_dropped(flash, p, b) || is_unused(flash, mask, b)
 }
 
 /// The erase list by the plan and the used pages of each block.
-pub fn erase_list(tags: &[u8], paths: &[u64], p: Plan, masks: &[u32]) -> Erase
-    requires { length tags.now ≤ 1024 }
-    ensures { result ≡ erase_of (erase_by (length tags.now) (labels_of tags.now paths.now) p masks.now) }
+#[tactic(auto, using(crate::proofs::Erasable::kept_done, label::proofs::Noted::olders_at), unfolding(crate::specs::Erase::erase_by))]
+pub fn erase_list(flash: &Flash, p: Plan, masks: &[u32]) -> Erase
+    requires { blocks flash.now ≤ 1024 }
+    ensures { result ≡ erase_of (erase_by (blocks flash.now) (labels flash.now) p masks.now) }
 {
-    let olders = label::olders(tags, paths);
+    let olders = flash.olders();
     let mut blocks = [0; 1024];
     let mut count = 0;
-    let mut i = 0;
-    while i < tags.len() {
-        let at = i;
-        i += 1;
-        if is_erasable(tags, paths, p, olders[at], mask_at(masks, at), Block(at)) {
-            blocks[count] = at as u32;
+    for i in 0..flash.tags.len() {
+        let mask = masks.get(i).copied().unwrap_or(0);
+        if is_erasable(flash, p, olders[i], mask, Block(i)) {
+            blocks[count] = i as u32;
             count += 1;
         }
     }

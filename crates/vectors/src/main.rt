@@ -2,170 +2,108 @@
 // it is read in pieces, and of a dump that is too long to be acceptable the first 81,920 bytes are kept, which hold its first bad line.
 #![tactic(auto)]
 
-ghost use Rattle.std.specs.Prelude.{◌<◌};
-
 use std::io::{self, Read};
 
 // The line that the next byte stands in: at its start, after a `Z` that is all of it so far, or another.
-#[derive(Clone, Copy)]
+#[derive(Clone, Copy, PartialEq, Eq)]
 enum Line {
     Start,
     Z,
     Other,
 }
 
-// How many bytes of the dump are kept, and where its last line began.
-#[derive(Clone, Copy)]
+impl Line {
+    // What a byte makes of the line.
+    fn after(self, b: u8) -> Line {
+        match (self, b) {
+            (_, b'\n') => Line::Start,
+            (Line::Start, b'Z') => Line::Z,
+            _ => Line::Other,
+        }
+    }
+}
+
+// The dump so far: its first bytes, how many, and where its last line began.
+#[derive(Drop)]
 struct Kept {
+    text: [u8; 81920],
     count: usize,
     start: usize,
     line: Line,
 }
 
-fn none() -> Kept {
-    Kept {
-        count: 0,
-        start: 0,
-        line: Line::Start,
-    }
-}
-
-fn write(rt: &impl Print, out: &[u8], n: usize) -> io::Result<()> {
-    if n <= out.len() {
-        rt.write_all(&out[0..n])?;
-    }
-    Ok(())
-}
-
-fn write_listing(rt: &impl Print, text: &[u8], n: usize, out: &mut [u8]) -> io::Result<()> {
-    if text.len() < n {
-        return Ok(());
-    }
-    let end = lister::list(&text[0..n], 1, out);
-    write(rt, out, end)?;
-    rt.write_all(b"Z\n")
-}
-
-// The byte at its place, and how many are kept then.
-fn keep(text: &mut [u8], count: usize, b: u8) -> usize {
-    if count < text.len() {
-        text[count] = b;
-        return count + 1;
-    }
-    count
-}
-
-// What a byte makes of the line.
-fn line_after(line: Line, b: u8) -> Line {
-    if b == b'\n' {
-        return Line::Start;
-    }
-    match line {
-        Line::Start => {
-            if b == b'Z' {
-                return Line::Z;
-            }
-            Line::Other
+impl Kept {
+    fn none() -> Kept {
+        Kept {
+            text: [0; 81920],
+            count: 0,
+            start: 0,
+            line: Line::Start,
         }
-        Line::Z => Line::Other,
-        Line::Other => Line::Other,
     }
-}
 
-fn is_end(line: Line, b: u8) -> bool {
-    match line {
-        Line::Z => b == b'\n',
-        Line::Start => false,
-        Line::Other => false,
-    }
-}
-
-fn start_of(line: Line, count: usize, start: usize) -> usize {
-    match line {
-        Line::Start => count,
-        Line::Z => start,
-        Line::Other => start,
-    }
-}
-
-// One byte of the input: the last of a dump, or one to keep.
-fn take(rt: &impl Print, text: &mut [u8], k: Kept, b: u8, out: &mut [u8]) -> io::Result<Kept> {
-    let line = k.line;
-    if is_end(line, b) {
-        write_listing(rt, text, k.start, out)?;
-        return Ok(none());
-    }
-    let start = start_of(line, k.count, k.start);
-    let count = keep(text, k.count, b);
-    let after = line_after(line, b);
-    Ok(Kept {
-        count,
-        start,
-        line: after,
-    })
-}
-
-fn take_piece(
-    rt: &impl Print,
-    piece: &[u8],
-    text: &mut [u8],
-    first: Kept,
-    out: &mut [u8],
-) -> io::Result<Kept> {
-    let mut k = first;
-    for b in piece {
-        k = take(rt, text, k, *b, out)?;
-    }
-    Ok(k)
-}
-
-// The input ends: a last line `Z` may lack its newline, and a last dump its `Z`.
-fn finish(rt: &impl Print, text: &[u8], k: Kept, out: &mut [u8]) -> io::Result<()> {
-    let line = k.line;
-    match line {
-        Line::Z => write_listing(rt, text, k.start, out),
-        Line::Start => {
-            if k.count == 0 {
-                return Ok(());
-            }
-            write_listing(rt, text, k.count, out)
+    // Another byte of the dump.
+    fn keep(&mut self, b: u8) {
+        if self.line == Line::Start {
+            self.start = self.count;
         }
-        Line::Other => write_listing(rt, text, k.count, out),
+        if let Some(x) = self.text.get_mut(self.count) {
+            *x = b;
+            self.count += 1;
+        }
+        self.line = self.line.after(b);
+    }
+
+    // The dump ended: its listing. What is next is another.
+    fn list(&mut self, rt: &impl Print, n: usize, out: &mut [u8]) -> io::Result<()> {
+        let Some(text) = self.text.get(..n) else {
+            return Ok(());
+        };
+        let end = lister::list(text, 1, out);
+        rt.write_all(out.get(..end).unwrap_or(&[]))?;
+        rt.write_all(b"Z\n")?;
+        self.count = 0;
+        self.start = 0;
+        self.line = Line::Start;
+        Ok(())
+    }
+
+    // One byte of the input: the last of a dump, or one to keep.
+    fn take(&mut self, rt: &impl Print, b: u8, out: &mut [u8]) -> io::Result<()> {
+        if self.line == Line::Z && b == b'\n' {
+            return self.list(rt, self.start, out);
+        }
+        self.keep(b);
+        Ok(())
+    }
+
+    // The input ends: a last line `Z` may lack its newline, and a last dump its `Z`.
+    fn finish(&mut self, rt: &impl Print, out: &mut [u8]) -> io::Result<()> {
+        match self.line {
+            Line::Z => self.list(rt, self.start, out),
+            Line::Start if self.count == 0 => Ok(()),
+            _ => self.list(rt, self.count, out),
+        }
     }
 }
 
-// A piece that is not full is the input's last.
-fn left_after(n: usize, left: u64) -> u64
-    requires { 0 < left }
-    ensures { result < left }
-{
-    if n < 65536 {
-        return 0;
+// A piece that is not full is the input's last, and no input has 2^63 pieces.
+fn list_all(rt: &impl Print, input: &mut impl Read, out: &mut [u8]) -> io::Result<()> {
+    let mut piece = [0u8; 65536];
+    let mut kept = Kept::none();
+    for _ in 0..9223372036854775808u64 {
+        let n = input::read_full(input, &mut piece)?;
+        for b in &piece[..n] {
+            kept.take(rt, *b, out)?;
+        }
+        if n < piece.len() {
+            break;
+        }
     }
-    left - 1
-}
-
-// No input has 2^63 pieces.
-fn list_all(
-    rt: &impl Print,
-    input: &mut impl Read,
-    text: &mut [u8],
-    piece: &mut [u8],
-    out: &mut [u8],
-) -> io::Result<()> {
-    let mut k = none();
-    let mut left: u64 = 9223372036854775808;
-    while 0 < left {
-        let n = input::read_full(input, piece)?;
-        k = take_piece(rt, &piece[..n], text, k, out)?;
-        left = left_after(n, left);
-    }
-    finish(rt, text, k, out)
+    kept.finish(rt, out)
 }
 
 fn main(rt: HostRuntime) -> io::Result<()> {
-    let mut text = [0u8; 81920];
-    let mut piece = [0u8; 65536];
     let mut out = [0u8; 327680];
-    list_all(&rt, &mut rt.stdin(), &mut text, &mut piece, &mut out)
+    list_all(&rt, &mut rt.stdin(), &mut out)
 }

@@ -9,11 +9,11 @@ use borrow.Author.Rules.{rules}
 use Rattle.answer.proofs.extents_of.Goals as goal
 
 pub loop-k-init : goal.loop-k-init
-loop-k-init c = (omega arith, search rules, refl)
+loop-k-init c = (search rules, refl)
 
 pub loop-k-preserved : goal.loop-k-preserved
-loop-k-preserved c = (omega arith, length-set c.loop-k.extents c.loop-k.k _ ∙ c.loop-k.invariant.1, map_on extent_of [] c.args.rows.now c.loop-k.extents c.loop-k.k c.loop-k.invariant.2 (omega arith) (omega arith))
+loop-k-preserved c = (length-set c.loop-k.extents c.loop-k.k _ ∙ c.loop-k.invariant.0, map_on extent_of [] c.args.rows.now c.loop-k.extents c.loop-k.k c.loop-k.invariant.1 (omega arith) (omega arith))
 
 pub returns : goal.returns
 returns c = let e : c.loop-k.k ≡ c.args.n = omega arith in
-    subst (λ (n : ℕ). take n c.loop-k.extents ≡ map extent_of (take n c.args.rows.now)) e c.loop-k.invariant.2
+    subst (λ (n : ℕ). take n c.loop-k.extents ≡ map extent_of (take n c.args.rows.now)) e c.loop-k.invariant.1

@@ -1,4 +1,3 @@
-use Prim.Native.Nat.{◌≤◌, ◌-◌}
 use mathlib.Core.Path.{◌≡◌}
 use mathlib.Core.List.{map}
 use lib.ListN.{length, take}
@@ -6,7 +5,4 @@ use Rattle.extent.specs.Rows.{extent_of}
 use Rattle.answer.proofs.extents_of.Given as goal
 
 abbrev pub invariant-loop-k : goal.invariant-loop-k
-invariant-loop-k l = (l.k ≤ l.n) × (length l.extents ≡ 1024) × (take l.k l.extents ≡ map extent_of (take l.k l.rows))
-
-abbrev pub decreases-loop-k : goal.decreases-loop-k
-decreases-loop-k l = l.n - l.k
+invariant-loop-k l = (length l.extents ≡ 1024) × (take l.k l.extents ≡ map extent_of (take l.k l.rows))

@@ -1,24 +1,22 @@
 use mathlib.Core.Path.{refl}
-use native.Mathlib.Omega.{arith}
-use Rattle.answer.proofs.Laws.{few_shown, cored}
+use Rattle.answer.proofs.Laws.{cored, cored_refused}
 use Rattle.answer.proofs.show_all.Goals as goal
 
-pub extents_of-extents-requires : goal.extents_of-extents-requires
-extents_of-extents-requires c = let k = few_shown _ _ c.show-s.result c.show-s.new.extents c.show-s.ensures.sized in
-    (k.1, omega (arith, k.1))
+pub returns-in-Err : goal.returns-in-Err
+returns-in-Err c = cored_refused _ _ _ _ _ c.refused.ensures c.in-Err.ensures.shows
 
-pub returns : goal.returns
-returns c = cored _ _ _ _ c.within-h.ensures c.show-s.result c.show-s.new.extents c.show-s.ensures.extents_after c.show-s.ensures.sized c.extents_of-extents.result c.extents_of-extents.ensures _
+pub returns-in-Ok : goal.returns-in-Ok
+returns-in-Ok c = cored _ _ _ c.in-Ok.s c.show_in.new.rows c.extents_of-extents.result c.extents_of-extents.ensures c.in-Ok.ensures.shows c.in-Ok.ensures.sized c.in-Ok.ensures.room _
     (record {
-      n = omega arith;
-      records = omega arith;
-      runs = omega arith;
-      applied = omega arith;
-      ignored = omega arith;
+      n = refl;
+      records = refl;
+      runs = refl;
+      applied = refl;
+      ignored = refl;
       all = refl;
       extents = refl;
       used = refl;
       erase = refl;
-      insertion = c.insertion_at-insertion.ensures;
-      said = c.ended-said.ensures;
+      insertion = c.from-insertion.ensures;
+      said = c.from-said.ensures;
     })

@@ -8,9 +8,6 @@ use Rattle.extent.proofs.Parts.{rows_low, none_left}
 use Rattle.extent.proofs.Halves.{halves_split}
 use Rattle.extent.proofs.below.Goals as goal
 
-pub returns-then-n-eq0 : goal.returns-then-n-eq0
-returns-then-n-eq0 c = record { few = omega arith; low = tt; high = none_left c.args.rows.now c.args.n 0 _ (omega arith) }
-
 pub returns-then-start_of-key : goal.returns-then-start_of-key
 returns-then-start_of-key c = record {
   few = omega (arith, runs_length c.args.rows.now c.args.n c.requires.0);
@@ -18,5 +15,5 @@ returns-then-start_of-key c = record {
   high = none_left c.args.rows.now c.args.n c.args.n _ (omega arith);
 }
 
-pub returns : goal.returns
-returns c = subst (Split c.args.key (runs c.args.rows.now c.args.n)) (sym c.by_halves.ensures.0) (halves_split c.args.rows.now c.args.n c.args.key c.requires.0 c.requires.1)
+pub returns-else-n-gt0 : goal.returns-else-n-gt0
+returns-else-n-gt0 c = subst (Split c.args.key (runs c.args.rows.now c.args.n)) (sym c.by_halves.ensures.0) (halves_split c.args.rows.now c.args.n c.args.key c.requires.0 c.requires.1)

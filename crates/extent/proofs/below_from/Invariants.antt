@@ -1,5 +1,5 @@
 -- The first k start before the key.
-use Prim.Native.Nat.{◌≤◌, ◌<◌, ◌-◌}
+use Prim.Native.Nat.{◌<◌}
 use lib.ListN.{take}
 use Rattle.meaning.specs.declared.Extent.{Extent}
 use Rattle.base.specs.Member.{All}
@@ -8,7 +8,4 @@ use Rattle.extent.specs.Rows.{runs}
 use Rattle.extent.proofs.below_from.Given as goal
 
 abbrev pub invariant-loop-k : goal.invariant-loop-k
-invariant-loop-k l = (l.p ≤ l.k) × (l.k ≤ l.n) × All (λ (x : Extent). start x < l.key) (take l.k (runs l.rows l.n))
-
-abbrev pub decreases-loop-k : goal.decreases-loop-k
-decreases-loop-k l = l.n - l.k
+invariant-loop-k l = All (λ (x : Extent). start x < l.key) (take l.k (runs l.rows l.n))

@@ -5,14 +5,8 @@ use Rattle.extent.proofs.by_halves.Goals as goal
 pub loop-left-init : goal.loop-left-init
 loop-left-init c = search_begin c.args.rows.now c.args.n c.args.key
 
-pub loop-left-smaller-then-start_of-key : goal.loop-left-smaller-then-start_of-key
-loop-left-smaller-then-start_of-key c = omega arith
-
 pub loop-left-preserved-then-start_of-key : goal.loop-left-preserved-then-start_of-key
 loop-left-preserved-then-start_of-key c = search_high _ _ _ c.loop-left.lo c.loop-left.left c.loop-left.invariant c.loop-left-test.true (omega (arith, c.start_of.ensures, c.if-start_of-key.true))
-
-pub loop-left-smaller : goal.loop-left-smaller
-loop-left-smaller c = omega arith
 
 pub loop-left-preserved : goal.loop-left-preserved
 loop-left-preserved c = search_low _ _ _ c.loop-left.lo c.loop-left.left c.loop-left.invariant c.loop-left-test.true (omega (arith, c.start_of.ensures, c.if-start_of-key.false))

@@ -10,10 +10,10 @@ pub back_of-requires : goal.back_of-requires
 back_of-requires c = (row_sound c.args.rows.now c.args.q c.args.e c.requires (omega arith), omega (arith, row_low c.args.rows.now c.args.q c.args.e c.requires (omega arith)), omega arith)
 
 pub returns-then-e-end_of : goal.returns-then-e-end_of
-returns-then-e-end_of c = (rw c.back_of.ensures (piece_left c.args.rows.now c.args.q c.args.e c.requires (omega arith) (omega arith)), omega arith)
+returns-then-e-end_of c = rw c.back_of.ensures (piece_left c.args.rows.now c.args.q c.args.e c.requires (omega arith) (omega arith))
 
 pub returns-else-e-end_of : goal.returns-else-e-end_of
-returns-else-e-end_of c = (piece_gone c.args.rows.now c.args.q c.args.e c.requires (omega arith) (omega arith), omega arith)
+returns-else-e-end_of c = piece_gone c.args.rows.now c.args.q c.args.e c.requires (omega arith) (omega arith)
 
-pub returns-else-q-gt0 : goal.returns-else-q-gt0
-returns-else-q-gt0 c = (piece_none c.args.rows.now c.args.q c.args.e (omega arith), omega arith)
+pub returns-then-q-eq0 : goal.returns-then-q-eq0
+returns-then-q-eq0 c = piece_none c.args.rows.now c.args.q c.args.e (omega arith)

@@ -1,10 +1,7 @@
-use Prim.Native.Nat.{◌≤◌, ◌-◌}
-use lib.ListN.{length}
-use Rattle.file.specs.File.{Low}
+use Prim.Native.Nat.{ℕ, ◌<◌, ◌^◌}
+use mathlib.Core.List.{[]}
+use lib.ListN.{get_or}
 use Rattle.file.proofs.low_paths.Given as goal
 
-abbrev pub invariant-loop-k : goal.invariant-loop-k
-invariant-loop-k l = (l.k ≤ length l.xs) × Low l.xs l.k
-
-abbrev pub decreases-loop-k : goal.decreases-loop-k
-decreases-loop-k l = length l.xs - l.k
+abbrev pub invariant-loop-row : goal.invariant-loop-row
+invariant-loop-row l = (i : ℕ) → i < l.row-index → get_or (get_or l.xs i []) 0 0 < 2 ^ 32

@@ -1,20 +1,13 @@
 use mathlib.Core.Path.{ap, ◌∙◌}
 use mathlib.Core.List.{List}
+use Rattle.std.specs.Prelude.{Ok, Err}
 use Rattle.meaning.specs.declared.Step.{Step}
-use Rattle.replay.specs.Replay.{answer_by}
-use Rattle.reclaim.specs.Reclaimed.{steps_in}
-use Rattle.host.proofs.Numbers.{canonical, same_answer, said_steps}
+use Rattle.meaning.specs.Answer.{Answer, ok}
+use Rattle.host.proofs.Numbers.{canonical, same_answer}
 use Rattle.host.proofs.chimecorona_reclaim.Goals as goal
 
-pub actions_of-steps-requires : goal.actions_of-steps-requires
-actions_of-steps-requires c = c.reclaim-r.ensures.result_value.1.1
+pub returns-in-Ok-clause-result_value : goal.returns-in-Ok-clause-result_value
+returns-in-Ok-clause-result_value c = (same_answer (Ok tt) (c.listed.ensures.0 ∙ c.from.ensures) _ ∙ ap {B = Answer (List Step)} ok c.listed.ensures.2 ∙ c.in-Ok.ensures.result_value, canonical (Ok tt) (c.listed.ensures.0 ∙ c.from.ensures))
 
-pub returns : goal.returns
-returns c = record {
-  result_value = (
-    same_answer c.reclaim-r.result.said c.ended-said.ensures _ ∙ ap (λ (ss : List Step). answer_by c.reclaim-r.result.said ss) (said_steps (steps_in c.reclaim-r.result.list) c.actions_of-steps.ensures)
-        ∙ c.reclaim-r.ensures.result_value.0,
-    canonical c.reclaim-r.result.said c.ended-said.ensures,
-  );
-  contents_after = c.reclaim-r.ensures.contents_after;
-}
+pub returns-in-Err-clause-result_value : goal.returns-in-Err-clause-result_value
+returns-in-Err-clause-result_value c = (same_answer (Err c.in-Err.x) (c.listed-in-Err.ensures.0 ∙ c.from-in-Err.ensures) _ ∙ c.in-Err.ensures.result_value, canonical (Err c.in-Err.x) (c.listed-in-Err.ensures.0 ∙ c.from-in-Err.ensures))

@@ -1,4 +1,4 @@
-use Rattle.label.proofs.Passed.{nexts}
+use Rattle.label.proofs.Passed.{nexts, next_end}
 use Rattle.label.proofs.next_of.Goals as goal
 
 pub loop-i-init : goal.loop-i-init
@@ -11,4 +11,4 @@ pub loop-i-preserved : goal.loop-i-preserved
 loop-i-preserved c = search nexts
 
 pub returns : goal.returns
-returns c = search nexts
+returns c = next_end _ _ _ c.loop-i.i c.loop-i.invariant c.loop-i-test.false c.max.ensures

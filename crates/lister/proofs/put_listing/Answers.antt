@@ -3,13 +3,10 @@ use Rattle.lister.proofs.Whole.{whole_wrote, stopped_wrote, sized_few}
 use Rattle.lister.proofs.put_listing.Goals as goal
 
 pub put_mount-requires : goal.put_mount-requires
-put_mount-requires c = let f = sized_few _ _ c.show-r.result c.show-r.new.extents c.show-r.ensures.sized c.in-Whole.is in
-    (f.0, omega (arith, f.1, c.show-r.auto.extents))
+put_mount-requires c = let f = sized_few _ _ _ c.show.ensures.sized c.in-Ok.is in (f.0, f.1, omega (arith, f.2, c.show.auto.extents))
 
-pub returns-in-Whole : goal.returns-in-Whole
-returns-in-Whole c = whole_wrote _ c.show-r.result c.show-r.new.extents c.show-r.ensures.extents_after c.in-Whole.is
-    c.put_mount.ensures
+pub returns-in-Ok : goal.returns-in-Ok
+returns-in-Ok c = whole_wrote _ _ c.show.ensures.extents_after c.in-Ok.is c.put_mount.ensures
 
-pub returns : goal.returns
-returns c = stopped_wrote _ c.show-r.result c.show-r.new.extents c.show-r.ensures.extents_after c.in-Refused.is
-    c.put_refusal.ensures
+pub returns-in-Err : goal.returns-in-Err
+returns-in-Err c = stopped_wrote _ _ c.show.ensures.extents_after c.in-Err.is c.put_refusal.ensures

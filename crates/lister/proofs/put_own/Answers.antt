@@ -1,11 +1,9 @@
 use native.Mathlib.Omega.{arith}
-use Rattle.lister.proofs.Lists.{own_yes, own_no}
+use mathlib.Core.Path.{ap}
+use Rattle.meaning.specs.declared.Extent.{Extent}
+use Rattle.listing.proofs.Ways.{wrote_none, wrote_no=}
 use Rattle.lister.proofs.put_own.Goals as goal
 
-pub returns-then-e-path : goal.returns-then-e-path
-returns-then-e-path c = own_yes c.args.row c.args.path
-    c.extent_of-e.ensures (omega arith) c.put_extent.ensures
-
-pub returns : goal.returns
-returns c = own_no c.args.row c.args.path c.extent_of-e.ensures
-    (λ h. c.if-e-path.false (omega arith))
+pub returns-else-e-path : goal.returns-else-e-path
+returns-else-e-path c = wrote_no= _ _ _ _
+    (λ h. omega (arith, ap (λ (x : Extent). x.path) c.extent_of-e.ensures)) (wrote_none _ _)

@@ -1,4 +1,3 @@
-use Prim.Native.Nat.{◌-◌}
 use lib.ListN.{length}
 use Rattle.meaning.specs.Flash.{labels_of}
 use Rattle.meaning.specs.Labels.{leads, view}
@@ -7,7 +6,4 @@ use Rattle.label.proofs.Scanned.{Clear}
 use Rattle.plan.proofs.active_generation.Given as goal
 
 abbrev pub invariant-loop-g : goal.invariant-loop-g
-invariant-loop-g l = Clear (leads (length l.tags) (view (length l.tags) (labels_of l.tags l.paths) means.Log)) l.g
-
-abbrev pub decreases-loop-g : goal.decreases-loop-g
-decreases-loop-g l = 4 - l.g
+invariant-loop-g l = Clear (leads (length l.flash.tags.now) (view (length l.flash.tags.now) (labels_of l.flash.tags.now l.flash.paths.now) means.Log)) l.g

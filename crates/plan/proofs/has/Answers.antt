@@ -1,8 +1,6 @@
-use Rattle.plan.proofs.Told.{told_has}
+use mathlib.Core.Path.{◌∙◌}
+use Rattle.plan.proofs.Told.{has_found}
 use Rattle.plan.proofs.has.Goals as goal
 
-pub returns-in-At : goal.returns-in-At
-returns-in-At c = search told_has
-
-pub returns-in-Nothing : goal.returns-in-Nothing
-returns-in-Nothing c = search told_has
+pub returns : goal.returns
+returns c = c.is_some.ensures ∙ has_found _ _ _ c.find.ensures

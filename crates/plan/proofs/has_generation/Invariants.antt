@@ -1,4 +1,3 @@
-use Prim.Native.Nat.{◌-◌}
 use lib.ListN.{length}
 use Rattle.meaning.specs.Flash.{labels_of}
 use Rattle.meaning.specs.Labels.{view}
@@ -8,7 +7,4 @@ use Rattle.label.proofs.Scanned.{Clear}
 use Rattle.plan.proofs.has_generation.Given as goal
 
 abbrev pub invariant-loop-i : goal.invariant-loop-i
-invariant-loop-i l = Clear (λ k. of_generation l.g.0 (view (length l.tags) (labels_of l.tags l.paths) means.Log k)) l.i
-
-abbrev pub decreases-loop-i : goal.decreases-loop-i
-decreases-loop-i l = length l.tags - l.i
+invariant-loop-i l = Clear (λ k. of_generation l.g.0 (view (length l.flash.tags.now) (labels_of l.flash.tags.now l.flash.paths.now) means.Log k)) l.i

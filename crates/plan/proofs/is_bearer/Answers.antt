@@ -2,10 +2,10 @@ use Rattle.plan.specs.Ask.{bearer}
 use Rattle.label.proofs.Sure.{sure}
 use Rattle.plan.proofs.is_bearer.Goals as goal
 
-pub returns-then-i-from : goal.returns-then-i-from
+pub returns-then-from-b : goal.returns-then-from-b
 unfolding bearer
-returns-then-i-from c = search sure
+returns-then-from-b c = search sure
 
-pub returns : goal.returns
+pub returns-else-from-b : goal.returns-else-from-b
 unfolding bearer
-returns c = search sure
+returns-else-from-b c = search sure

@@ -1,8 +1,9 @@
 use Rattle.plan.proofs.Told.{told_log}
+use Rattle.label.proofs.Sure.{fails}
 use Rattle.plan.proofs.is_dropped.Goals as goal
 
-pub returns-then-not-drops : goal.returns-then-not-drops
-returns-then-not-drops c = search told_log
+pub returns-then-drops : goal.returns-then-drops
+returns-then-drops c = search told_log
 
-pub returns : goal.returns
-returns c = search told_log
+pub returns-else-drops : goal.returns-else-drops
+returns-else-drops c = search (told_log, fails)

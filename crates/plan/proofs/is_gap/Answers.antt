@@ -2,10 +2,10 @@ use Rattle.meaning.specs.Labels.{gap}
 use Rattle.label.proofs.Sure.{sure}
 use Rattle.plan.proofs.is_gap.Goals as goal
 
-pub returns-then-r-eq0 : goal.returns-then-r-eq0
+pub returns-then-r-ne0 : goal.returns-then-r-ne0
 unfolding gap
-returns-then-r-eq0 c = search sure
+returns-then-r-ne0 c = search sure
 
-pub returns : goal.returns
+pub returns-else-r-ne0 : goal.returns-else-r-ne0
 unfolding gap
-returns c = search sure
+returns-else-r-ne0 c = search sure

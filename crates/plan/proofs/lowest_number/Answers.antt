@@ -10,5 +10,5 @@ loop-i-preserved c = search lowers
 pub returns-then-best-lt4096 : goal.returns-then-best-lt4096
 returns-then-best-lt4096 c = search lowers
 
-pub returns : goal.returns
-returns c = search lowers
+pub returns-else-best-lt4096 : goal.returns-else-best-lt4096
+returns-else-best-lt4096 c = search lowers

@@ -1,4 +1,3 @@
-use Prim.Native.Nat.{◌-◌}
 use lib.ListN.{length}
 use Rattle.meaning.specs.Flash.{labels_of}
 use Rattle.meaning.specs.Labels.{view}
@@ -7,7 +6,4 @@ use Rattle.plan.proofs.Lowest.{Lowered}
 use Rattle.plan.proofs.lowest_number.Given as goal
 
 abbrev pub invariant-loop-i : goal.invariant-loop-i
-invariant-loop-i l = Lowered (length l.tags) (view (length l.tags) (labels_of l.tags l.paths) means.Log) l.g.0 l.i l.best
-
-abbrev pub decreases-loop-i : goal.decreases-loop-i
-decreases-loop-i l = length l.tags - l.i
+invariant-loop-i l = Lowered (length l.flash.tags.now) (view (length l.flash.tags.now) (labels_of l.flash.tags.now l.flash.paths.now) means.Log) l.g.0 l.i l.best

@@ -14,4 +14,4 @@ pub loop-i-preserved : goal.loop-i-preserved
 loop-i-preserved c = (omega arith, numbers_more _ _ _ c.loop-i.i c.number_from-above.result c.loop-i.numbers c.loop-i.invariant.1 c.number_from-above.ensures)
 
 pub returns : goal.returns
-returns c = let e : c.loop-i.i ≡ length c.args.tags.now = omega arith in rw e at c.loop-i.invariant.1
+returns c = let e : c.loop-i.i ≡ length c.args.flash.now.tags.now = omega arith in rw e at c.loop-i.invariant.1

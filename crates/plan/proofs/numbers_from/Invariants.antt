@@ -1,5 +1,5 @@
 -- The invariant: the numbers of the blocks before i have their flags.
-use Prim.Native.Nat.{◌-◌, ◌≤◌}
+use Prim.Native.Nat.{◌≤◌}
 use lib.ListN.{length}
 use Rattle.meaning.specs.Flash.{labels_of}
 use Rattle.meaning.specs.Labels.{view}
@@ -8,7 +8,4 @@ use Rattle.plan.specs.Ask.{Numbers}
 use Rattle.plan.proofs.numbers_from.Given as goal
 
 abbrev pub invariant-loop-i : goal.invariant-loop-i
-invariant-loop-i l = (l.i ≤ length l.tags) × Numbers (view (length l.tags) (labels_of l.tags l.paths) means.Log) l.g.0 l.from l.i l.numbers
-
-abbrev pub decreases-loop-i : goal.decreases-loop-i
-decreases-loop-i l = length l.tags - l.i
+invariant-loop-i l = (l.i ≤ length l.flash.tags.now) × Numbers (view (length l.flash.tags.now) (labels_of l.flash.tags.now l.flash.paths.now) means.Log) l.g.0 l.from l.i l.numbers

@@ -6,8 +6,5 @@ use Rattle.meaning.specs.declared.Tag.TheVariants as means
 use Rattle.plan.proofs.Runs.{Running}
 use Rattle.plan.proofs.unbroken.Given as goal
 
-abbrev pub invariant-loop-count : goal.invariant-loop-count
-invariant-loop-count l = Running (length l.tags) (view (length l.tags) (labels_of l.tags l.paths) means.Log) l.g.0 l.bound l.from l.count l.k
-
-abbrev pub decreases-loop-count : goal.decreases-loop-count
-decreases-loop-count l = length l.tags - l.count
+abbrev pub invariant-loop-k : goal.invariant-loop-k
+invariant-loop-k l = Running (length l.flash.tags.now) (view (length l.flash.tags.now) (labels_of l.flash.tags.now l.flash.paths.now) means.Log) l.g.0 l.bound l.from (l.k - l.from) l.k

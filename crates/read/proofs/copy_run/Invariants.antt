@@ -6,7 +6,7 @@ use Rattle.read.proofs.Runs.{Ran}
 use Rattle.read.proofs.copy_run.Given as goal
 
 abbrev pub invariant-loop-i : goal.invariant-loop-i
-invariant-loop-i l = Ran (byte_at l.g (image_of l.g (lent l.tags l.paths l.contents))) l.a l.initial.part l.part l.i
+invariant-loop-i l = Ran (byte_at l.flash.geometry (image_of l.flash.geometry (lent l.flash.tags.now l.flash.paths.now l.flash.contents.now))) l.a l.initial.part l.part l.i
 
 abbrev pub decreases-loop-i : goal.decreases-loop-i
 decreases-loop-i l = l.n - l.i

@@ -8,7 +8,7 @@ use Rattle.replay.proofs.Turns.{Going}
 use Rattle.replay.proofs.replay.Given as goal
 
 abbrev pub invariant-loop-t : goal.invariant-loop-t
-invariant-loop-t l = Going l.g (lent l.tags l.paths l.contents) l.p l.t l.spans l.rows l.room l.applied l.ignored l.c × (length l.scratch ≡ length l.initial.scratch) × (1024 ≤ length l.scratch)
+invariant-loop-t l = Going l.flash.geometry (lent l.flash.tags.now l.flash.paths.now l.flash.contents.now) l.p l.t l.spans l.rows l.room l.applied l.ignored l.c × (length l.scratch ≡ length l.initial.scratch) × (1024 ≤ length l.scratch)
 
 abbrev pub decreases-loop-t : goal.decreases-loop-t
-decreases-loop-t l = left l.g l.p l.c
+decreases-loop-t l = left l.flash.geometry l.p l.c

@@ -10,8 +10,8 @@ offset_bounds-spans-s c = omega (arith, (c.requires.2.parts.part c.args.s c.requ
 pub slice_copy_out-p : goal.slice_copy_out-p
 slice_copy_out-p c = omega (arith, (c.requires.2.parts.part c.args.s c.requires.3).slot, c.requires.2.parts.slots)
 
-pub returns-then-many-wide : goal.returns-then-many-wide
-returns-then-many-wide c = let ss = take c.args.n c.args.slots.now in
+pub returns-then-many-p : goal.returns-then-many-p
+returns-then-many-p c = let ss = take c.args.n c.args.slots.now in
     roomed_already c.args.spans.now c.args.rows.now c.args.bump ss c.args.s c.requires.2 (omega arith)
 
 pub move_part-requires : goal.move_part-requires

@@ -1,7 +1,7 @@
 -- What scratch begins with goes to the front of the arena.
-use mathlib.Core.Path.{◌≡◌, ◌∙◌, sym, ap}
+use mathlib.Core.Path.{◌≡◌, ◌∙◌, sym}
 use lib.ListN.{length, take}
-use Rattle.runs.specs.Runs.{gather_rows, put}
+use Rattle.runs.specs.Runs.{gather_rows}
 use Rattle.runs.proofs.Lists.{put_front}
 use Rattle.runs.proofs.Slots.{rows_length}
 use Rattle.runs.proofs.pack.Goals as goal
@@ -15,5 +15,5 @@ returns c = let ss = take c.args.n c.args.slots.now in
     let l : c.gathered-m.result ≡ length ys = c.gathered-m.ensures.0 ∙ sym (rows_length c.args.spans.now c.args.rows.now ss c.requires.2) in (
       c.gathered-m.ensures.0,
       c.close_up.ensures,
-      c.copy_rows.ensures.1 ∙ ap (put c.args.rows.now 0) {y = ys} (put_front c.args.scratch.now _ ys c.gathered-m.result c.gathered-m.ensures.1 l),
+      put_front c.args.rows.now c.args.scratch.now _ ys _ c.gathered-m.result c.gathered-m.ensures.1 l c.copy_from_slice.ensures.after,
     )

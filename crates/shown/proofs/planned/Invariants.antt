@@ -1,12 +1,8 @@
 -- The loop's invariant: the first k records are the tree's, by ascending path.
-use Prim.Native.Nat.{◌≤◌, ◌-◌}
 use mathlib.Core.Path.{◌≡◌}
 use lib.ListN.{length, take}
 use Rattle.tree.specs.Tree.{files, Kept}
 use Rattle.shown.proofs.planned.Given as goal
 
 abbrev pub invariant-loop-k : goal.invariant-loop-k
-invariant-loop-k l = (l.k ≤ l.count) × (l.count ≡ l.t.count) × Kept l.t × (length l.records ≡ 256) × (take l.k l.records ≡ take l.k (files l.t))
-
-abbrev pub decreases-loop-k : goal.decreases-loop-k
-decreases-loop-k l = l.count - l.k
+invariant-loop-k l = (l.count ≡ l.t.count) × Kept l.t × (length l.records ≡ 256) × (take l.k l.records ≡ take l.k (files l.t))

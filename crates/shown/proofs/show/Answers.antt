@@ -1,12 +1,13 @@
-use Rattle.shown.proofs.Mounts.{selected_no, selected_ready, refused_shows, refused_sizes}
-use mathlib.Core.Path.{◌∙◌, sym}
+use mathlib.Core.Path.{sym, ◌∙◌}
+use Rattle.std.proofs.lemmas.Result.{err_from_is_err_and}
+use Rattle.shown.proofs.Mounts.{selected_no, selected_ready}
 use Rattle.shown.proofs.show.Goals as goal
 
+pub returns-in_err-p-clause-extents_after : goal.returns-in_err-p-clause-extents_after
+returns-in_err-p-clause-extents_after c = let p = err_from_is_err_and c.from_residual.result c.from_residual.ensures.1 in rw (p.1, p.2) (sym (selected_no _ _ c.select.ensures c.in_err-p.was))
+
 pub planned-requires : goal.planned-requires
-planned-requires c = ((selected_ready _ _ c.select.ensures c.in-Planned.is).0, c.requires)
+planned-requires c = ((selected_ready _ _ c.select.ensures c.in_ok-p.was).0, c.requires)
 
-pub returns-in-Planned : goal.returns-in-Planned
-returns-in-Planned c = record { extents_after = c.planned.ensures.extents_after ∙ sym (selected_ready _ _ c.select.ensures c.in-Planned.is).1; sized = c.planned.ensures.sized }
-
-pub returns : goal.returns
-returns c = record { extents_after = refused_shows c.refused.result _ c.refused.ensures (selected_no _ _ c.select.ensures c.in-Refused.is); sized = refused_sizes _ _ c.refused.result _ c.refused.ensures }
+pub returns-clause-extents_after : goal.returns-clause-extents_after
+returns-clause-extents_after c = c.planned.ensures.extents_after ∙ sym (selected_ready _ _ c.select.ensures c.in_ok-p.was).1

@@ -5,4 +5,4 @@ use Rattle.tree.proofs.bare.Goals as goal
 
 pub returns : goal.returns
 unfolding root nothing
-returns c = root_alone _ _ _ refl refl c.numbered-s.ensures refl refl
+returns c = root_alone _ _ _ refl refl c.numbered.ensures refl refl

@@ -1,39 +1,21 @@
 -- Past all addresses, past the block, before it, in the log, or here.
-use native.Mathlib.Omega.{arith}
-use borrow.Author.Tests.{not-true, not-false}
-use Rattle.used.proofs.Touch.{block_low, page_low, some_size, touched_far, touched_past, touched_before, touched_log, touched_here}
-use borrow.Author.Rules.{rules}
+use Rattle.std.proofs.Common.{arith, ap₂, ◌/◌}
+use Rattle.used.proofs.Touch.{touched_far, touched_past, touched_before, touched_log, touched_here}
 use Rattle.used.proofs.touched.Goals as goal
+use Rattle.used.proofs.touched.Goals.{then-begin-block-via-then-begin-block, then-begin-block-via-else-begin-block+then-end-begin, then-begin-block-via-else-begin-block+else-end-begin+then-not-in_data}
 
-pub returns-then-d-ge8589934592 : goal.returns-then-d-ge8589934592
-returns-then-d-ge8589934592 c = touched_far c.args.g c.args.d _ (omega arith) (omega arith) (omega arith)
-
-pub overflow_mul-begin : goal.overflow_mul-begin
-overflow_mul-begin c = record { fits = omega (arith, block_low c.args.g _ c.args.d c.block_size-block.ensures (omega arith) (omega arith) (omega arith)) }
-
-pub overflow_add-begin : goal.overflow_add-begin
-overflow_add-begin c = record { fits = omega (arith, block_low c.args.g _ c.args.d c.block_size-block.ensures (omega arith) (omega arith) (omega arith)) }
+pub returns-then-d-ge-NUMBERS : goal.returns-then-d-ge-NUMBERS
+returns-then-d-ge-NUMBERS c = touched_far _ _ _ (omega arith) (omega arith) (omega arith)
 
 pub returns-then-begin-block : goal.returns-then-begin-block
-returns-then-begin-block c = touched_past _ _ _ c.block_size-block.ensures c.wide-start.ensures.0 c.wide.ensures.0 (omega arith)
-
-pub returns-then-end-begin : goal.returns-then-end-begin
-returns-then-end-begin c = touched_before _ _ _ c.block_size-block.ensures c.wide-start.ensures.0 c.wide.ensures.0 (omega arith)
-
-pub returns-then-not-in_data : goal.returns-then-not-in_data
-returns-then-not-in_data c = touched_log _ _ _ c.block_size-block.ensures c.wide-start.ensures.0 c.wide.ensures.0
-    c.in_data.ensures (not-true _ c.if-not-in_data.true-raw)
-
-pub page_in-from-requires : goal.page_in-from-requires
-page_in-from-requires c = search (rules, some_size)
-
-pub page_in-last-requires : goal.page_in-last-requires
-page_in-last-requires c = search (rules, some_size)
-
-pub overflow_add-last : goal.overflow_add-last
-overflow_add-last c = record { fits = omega (arith, page_low _ _ _ c.page_in-last.ensures) }
+returns-then-begin-block c = elim c.then-begin-block.branch [
+  | then-begin-block-via-then-begin-block w ↦ touched_past _ _ _ c.block_size-block.ensures c.from-start.ensures c.from.ensures (omega arith)
+  | then-begin-block-via-else-begin-block+then-end-begin w ↦ touched_before _ _ _ c.block_size-block.ensures c.from-start.ensures c.from.ensures (omega arith)
+  | then-begin-block-via-else-begin-block+else-end-begin+then-not-in_data w ↦ touched_log _ _ _ c.block_size-block.ensures c.from-start.ensures c.from.ensures w.in_data.ensures w.if-not-in_data.true
+]
 
 pub returns : goal.returns
-returns c = touched_here _ _ _ c.block_size-block.ensures c.wide-start.ensures.0 c.wide.ensures.0 _ _ _
-    c.in_data.ensures (not-false _ c.if-not-in_data.false-raw) (omega arith) (omega arith)
-    c.page_in-from.ensures c.page_in-last.ensures (omega arith) (omega arith) (omega arith)
+returns c = touched_here _ _ _ c.block_size-block.ensures c.from-start.ensures c.from.ensures _ _ _
+    c.in_data.ensures c.if-not-in_data.false (omega arith) (omega arith)
+    (ap₂ ◌/◌ c.saturating_sub.ensures c.from-size.ensures) (ap₂ ◌/◌ c.saturating_sub-2.ensures c.from-size.ensures)
+    (omega arith) (omega arith) (omega arith)

@@ -11,12 +11,6 @@ many_at-had-requires c = slot_in c.requires.2 c.requires.4 c.make_room-bump.ensu
 pub lay_at-requires : goal.lay_at-requires
 lay_at-requires c = opens_so c.requires.2 c.requires.4 c.make_room-bump.ensures c.requires.3
 
-pub many_at-has-requires : goal.many_at-has-requires
-many_at-has-requires c = omega (arith, slot_in c.requires.2 c.requires.4 c.make_room-bump.ensures)
-
-pub overflow_add-result : goal.overflow_add-result
-overflow_add-result c = omega (arith, (sums_so c.requires.2 c.requires.4 c.make_room-bump.ensures c.requires.3 _ _ _ c.lay_at.ensures.0 c.many_at-had.ensures c.many_at-has.ensures).0)
-
 pub overflow_sub-result : goal.overflow_sub-result
 overflow_sub-result c = omega (arith, (sums_so c.requires.2 c.requires.4 c.make_room-bump.ensures c.requires.3 _ _ _ c.lay_at.ensures.0 c.many_at-had.ensures c.many_at-has.ensures).1)
 

@@ -1,10 +1,6 @@
--- `cut::lists::erases` is safe and ends: what is left gets less.
-use Rattle.std.proofs.Common.{◌-◌, ◌≤◌}
-use Rattle.reclaim.specs.Reclaimed.{Listing}
+-- All places stay.
+use Rattle.std.proofs.Common.{◌≡◌, length}
 use Rattle.cut.proofs.lists.erases.Given as goal
 
 abbrev pub invariant-loop-i : goal.invariant-loop-i
-invariant-loop-i l = (l.i ≤ l.n) × Listing 35 l.l
-
-abbrev pub decreases-loop-i : goal.decreases-loop-i
-decreases-loop-i l = l.n - l.i
+invariant-loop-i l = length l.steps ≡ 35

@@ -1,15 +1,19 @@
 use native.Mathlib.Omega.{arith}
-use Rattle.label.proofs.Said.{path_free, path_large, path_log, path_other}
+use mathlib.Core.Path.{◌∙◌}
+use Rattle.label.proofs.Said.{path_free, path_log_large, path_log, path_large, path_other}
 use Rattle.label.proofs.Label.bad_path.Goals as goal
 
-pub returns-then-tag : goal.returns-then-tag
-returns-then-tag c = path_free _ _ c.byte_of-tag.ensures c.means.ensures (omega arith)
+pub returns-in-Free : goal.returns-in-Free
+returns-in-Free c = path_free _ _ c.in-Free.ensures
 
-pub returns-then-self-ge17179869184 : goal.returns-then-self-ge17179869184
-returns-then-self-ge17179869184 c = path_large _ _ c.byte_of-tag.ensures c.means.ensures (λ e. omega arith) (omega arith)
+pub returns-then-self-ge-PATHS : goal.returns-then-self-ge-PATHS
+returns-then-self-ge-PATHS c = path_log_large _ _ c.in-Log.ensures (omega arith)
 
-pub returns-then-tag-eq-LOG : goal.returns-then-tag-eq-LOG
-returns-then-tag-eq-LOG c = path_log _ _ c.byte_of-tag.ensures c.means.ensures (λ e. omega arith) (omega arith) (omega arith)
+pub returns-else-self-ge-PATHS : goal.returns-else-self-ge-PATHS
+returns-else-self-ge-PATHS c = path_log _ _ c.in-Log.ensures (omega arith)
 
-pub returns : goal.returns
-returns c = path_other _ _ c.byte_of-tag.ensures c.means.ensures (λ e. omega arith) (omega arith) (λ e. omega arith)
+pub returns-then-self-ge-PATHS-2 : goal.returns-then-self-ge-PATHS-2
+returns-then-self-ge-PATHS-2 c = path_large _ _ (λ e. c.in_default.not-Free (c.means.ensures ∙ e)) (omega arith)
+
+pub returns-else-self-ge-PATHS-2 : goal.returns-else-self-ge-PATHS-2
+returns-else-self-ge-PATHS-2 c = path_other _ _ (λ e. c.in_default.not-Free (c.means.ensures ∙ e)) (λ e. c.in_default.not-Log (c.means.ensures ∙ e)) (omega arith)

@@ -1,23 +1,24 @@
-use Rattle.base.proofs.Ways.{ways}
+use Rattle.base.specs.Choice.{if_eq, if_true}
 use Rattle.meaning.specs.Flash.{tag_of}
+use Rattle.base.proofs.Ways.{ways}
 use Rattle.label.proofs.Label.means.Goals as goal
 
-pub returns-then-self-eq-FREE : goal.returns-then-self-eq-FREE
-unfolding tag_of
-returns-then-self-eq-FREE c = search ways
+pub returns-in-255 : goal.returns-in-255
+unfolding tag_of if_eq if_true
+returns-in-255 c = rw c.in-255.is
 
-pub returns-then-self-eq-BOOT : goal.returns-then-self-eq-BOOT
-unfolding tag_of
-returns-then-self-eq-BOOT c = search ways
+pub returns-in-1 : goal.returns-in-1
+unfolding tag_of if_eq if_true
+returns-in-1 c = rw c.in-1.is
 
-pub returns-then-self-eq-LOG : goal.returns-then-self-eq-LOG
-unfolding tag_of
-returns-then-self-eq-LOG c = search ways
+pub returns-in-6 : goal.returns-in-6
+unfolding tag_of if_eq if_true
+returns-in-6 c = rw c.in-6.is
 
-pub returns-then-self-eq-DATA : goal.returns-then-self-eq-DATA
-unfolding tag_of
-returns-then-self-eq-DATA c = search ways
+pub returns-in-24 : goal.returns-in-24
+unfolding tag_of if_eq if_true
+returns-in-24 c = rw c.in-24.is
 
-pub returns : goal.returns
-unfolding tag_of
-returns c = search ways
+pub returns-in_default : goal.returns-in_default
+unfolding tag_of if_eq if_true
+returns-in_default c = search ways

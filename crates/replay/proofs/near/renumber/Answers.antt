@@ -1,5 +1,5 @@
 use Prim.Native.Nat.{ℕ, zero, suc, ◌+◌, ◌-◌, ◌<◌}
-use mathlib.Core.Path.{◌≡◌, refl}
+use mathlib.Core.Path.{◌≡◌}
 use mathlib.Core.List.{List, [], ◌∷◌}
 use native.Mathlib.Omega.{arith}
 use lib.ListN.{get_or}
@@ -12,14 +12,8 @@ slot-low [] k h = omega arith
 slot-low (s ∷ ss) zero h = h.0
 slot-low (s ∷ ss) (suc k) h = slot-low ss k h.1.1
 
-pub loop-k-init : goal.loop-k-init
-loop-k-init c = refl
-
-pub overflow_cast-s : goal.overflow_cast-s
-overflow_cast-s c = omega (arith, slot-low c.args.slots.now c.loop-k.k c.requires.1)
-
-pub bounds-place-s : goal.bounds-place-s
-bounds-place-s c = slot-low c.args.slots.now c.loop-k.k c.requires.1
+pub bounds-place-slots : goal.bounds-place-slots
+bounds-place-slots c = slot-low c.args.slots.now c.loop-k.k c.requires.1
 
 pub loop-k-preserved : goal.loop-k-preserved
 unfolding renumbered

@@ -6,6 +6,3 @@ use Rattle.replay.proofs.near.renumber.Given as goal
 
 abbrev pub invariant-loop-k : goal.invariant-loop-k
 invariant-loop-k l = renumbered l.slots l.k (l.n - l.k) l.place ≡ renumbered l.slots l.from (l.n - l.from) l.initial.place
-
-abbrev pub decreases-loop-k : goal.decreases-loop-k
-decreases-loop-k l = l.n - l.k

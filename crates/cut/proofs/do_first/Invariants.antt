@@ -1,9 +1,0 @@
--- `cut::do_first` is safe and ends: what is left gets less.
-use Rattle.std.proofs.Common.{◌-◌, ◌≤◌}
-use Rattle.cut.proofs.do_first.Given as goal
-
-abbrev pub invariant-loop-i : goal.invariant-loop-i
-invariant-loop-i l = l.i ≤ l.k
-
-abbrev pub decreases-loop-i : goal.decreases-loop-i
-decreases-loop-i l = l.k - l.i

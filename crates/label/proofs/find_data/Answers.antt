@@ -1,7 +1,0 @@
-use Rattle.meaning.specs.Labels.{find_data}
-use borrow.Author.Rules.{rules}
-use Rattle.label.proofs.find_data.Goals as goal
-
-pub returns : goal.returns
-unfolding find_data
-returns c = search rules

@@ -1,5 +1,0 @@
-use Rattle.label.proofs.Said.{said}
-use Rattle.label.proofs.is_tag.Goals as goal
-
-pub returns : goal.returns
-returns c = search said

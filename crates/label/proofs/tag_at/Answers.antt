@@ -1,5 +1,0 @@
-use Rattle.label.proofs.Said.{said}
-use Rattle.label.proofs.tag_at.Goals as goal
-
-pub returns : goal.returns
-returns c = search said

@@ -1,7 +1,0 @@
-use Rattle.meaning.specs.Replay.{created}
-use borrow.Author.Rules.{rules}
-use Rattle.tree.proofs.field.created.Goals as goal
-
-pub returns : goal.returns
-unfolding created
-returns c = search rules

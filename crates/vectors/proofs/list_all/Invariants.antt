@@ -1,5 +1,0 @@
--- Each piece leaves fewer.
-use Rattle.vectors.proofs.list_all.Given as goal
-
-abbrev pub decreases-loop-left : goal.decreases-loop-left
-decreases-loop-left g l = l.left
