@@ -2,5 +2,6 @@
 pub mod Line
 pub mod Rows
 pub mod Laws
+pub mod Moves
 pub mod Parts
 pub mod Halves

@@ -2,6 +2,7 @@
 // (start = path × 2^32 + offset) runs of two files never meet, so no function asks whose row it looks at.
 #![tactic(auto)]
 
+ghost use Rattle.std.specs.List.{copy_within};
 ghost use Rattle.std.specs.Prelude.{◌≡◌, [], ◌∷◌, ◌++◌, map, ◌+◌, ◌-◌, ◌*◌, ◌^◌, ◌≤◌, ◌<◌, length, take, drop};
 ghost use Rattle.meaning.specs.Replay.{start, end, front, back, before, after, lay};
 ghost use Rattle.extent.specs.Halves.{by_halves};
@@ -130,6 +131,16 @@ fn range(rows: &[[u32; 4]], n: usize, s: u64, e: u64) -> Range<usize>
     start..end
 }
 
+// Rows q up to n go to m. Where they stand there already they are left alone: a run that takes the place of one moves nothing.
+fn move_rows(rows: &mut [[u32; 4]], n: usize, q: usize, m: usize)
+    requires { (q ≤ n) × (n ≤ length rows.old) × (m + (n - q) ≤ length rows.old) }
+    ensures { rows.new ≡ copy_within rows.old q n m }
+{
+    if q != m {
+        rows.copy_within(q..n, m);
+    }
+}
+
 // The rows of the range make room for v and, if there is one, for w; what stands before is cut at s. Gives how many rows there
 // are now.
 fn put_run(
@@ -145,7 +156,7 @@ fn put_run(
 {
     let m = g.start + 1 + usize::from(w.is_some());
     cut(rows, g.start, s);
-    rows.copy_within(g.end..n, m);
+    move_rows(rows, n, g.end, m);
     if let Some(w) = w {
         rows[g.start + 1] = w;
     }

@@ -13,7 +13,7 @@ cut-requires c = low_fewer c.args.rows.now c.args.n c.args.g.start c.args.s c.re
 pub returns : goal.returns
 returns c = elim c.match-w.branch [
   | in-Some w ↦ put_both c.args.rows.now c.args.n c.args.g c.args.s c.args.v c.requires.0 (omega arith) (omega arith) (omega arith) _ _ _ w.in-Some.w w.in-Some.is (c.from.ensures ∙ ap bool_byte (c.is_some.ensures ∙ ap is_some w.in-Some.is))
-      (w.rows-is ∙ rw (c.copy_within.ensures.after, c.cut.ensures))
+      (w.rows-is ∙ rw (c.move_rows.ensures, c.cut.ensures))
   | in_default w ↦ put_alone c.args.rows.now c.args.n c.args.g c.args.s c.args.v c.requires.0 (omega arith) (omega arith) (omega arith) _ _ _ w.in_default.is (c.from.ensures ∙ ap bool_byte (c.is_some.ensures ∙ ap is_some w.in_default.is))
-      (w.rows-is ∙ rw (c.copy_within.ensures.after, c.cut.ensures))
+      (w.rows-is ∙ rw (c.move_rows.ensures, c.cut.ensures))
 ]
