@@ -2,6 +2,7 @@
 // Where slices are written they stay apart: a Flash of `&mut` slices was tried, and of what it leaves nothing is tied to the slices lent.
 #![tactic(auto)]
 
+ghost use Rattle.std.specs.List.{copy_within};
 ghost use Rattle.std.specs.Prelude.{◌≡◌, true, [], ◌+◌, ◌*◌, ◌≤◌, ◌<◌, length, set, ltb};
 ghost use Rattle.meaning.specs.declared.Step.TheVariants.{PageWrite};
 ghost use Rattle.meaning.specs.Flash.{block_size, fits, good_geometry};
@@ -38,7 +39,25 @@ fn erase(g: Geometry, tags: &mut [u8], paths: &mut [u64], contents: &mut [u8], b
     write_label(tags, paths, b, Label::FREE, ERASED);
 }
 
-#[tactic(auto, using(crate::proofs::Place::page_within))]
+// "The part of the lent contents that is one target page is lent on as &mut to the page writer, which fills it."
+fn write_page(target: &mut [u8], page: &[u8])
+    requires { length target.old ≡ length page.now }
+    ensures { target.new ≡ page.now }
+{
+    target.copy_from_slice(page);
+}
+
+// The page goes through a local, for source and target stand in the same slice.
+fn copy_page(contents: &mut [u8], from: usize, to: usize, size: usize)
+    requires { (from + size ≤ length contents.old) × (to + size ≤ length contents.old) × (size ≤ 2048) }
+    ensures { contents.new ≡ copy_within contents.old from (from + size) to }
+{
+    let mut held = [0; 2048];
+    held[..size].copy_from_slice(&contents[from..from + size]);
+    write_page(&mut contents[to..to + size], &held[..size]);
+}
+
+#[tactic(auto, using(crate::proofs::Place::page_within, crate::proofs::Place::size_within))]
 fn write(g: Geometry, contents: &mut [u8], from: Block, to: Block, page: usize)
     requires { (good_geometry g ≡ true) × (length contents.old ≡ g.blocks * block_size g) × (from.0 < g.blocks) × (to.0 < g.blocks) × (page < g.pages) }
     ensures { contents.new ≡ (done g (lent [] [] contents.old) (PageWrite from to page)).contents }
@@ -47,7 +66,7 @@ fn write(g: Geometry, contents: &mut [u8], from: Block, to: Block, page: usize)
     let block = label::block_size(g) as usize;
     let source = from.0 * block + page * size;
     let target = to.0 * block + page * size;
-    contents.copy_within(source..source + size, target);
+    copy_page(contents, source, target, size);
 }
 
 // ---- what lies inside
