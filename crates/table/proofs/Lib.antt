@@ -1,2 +1,3 @@
 -- Laws of a table of records.
+pub mod Lists
 pub mod Filled
