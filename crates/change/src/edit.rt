@@ -79,6 +79,7 @@ fn restatement(
 }
 
 /// Where the file f of its path is there. Each kind has an answer of its own: what a message is is asked once.
+// Hence each `return`: where the arm is a value the compiler builds the whole Edit first, and asks its kind again.
 pub fn edit_of(m: Message, f: Record) -> Edit
     requires { Ranged m }
     ensures { result ≡ edit_of m f }
@@ -92,13 +93,13 @@ pub fn edit_of(m: Message, f: Record) -> Edit
             cvers,
             muid,
             ..
-        } => truncation(f, mtime, cvers, muid),
+        } => return truncation(f, mtime, cvers, muid),
         Message::Write {
             run,
             mtime,
             muid,
             cvers,
-        } => write(f, run, mtime, muid, cvers),
+        } => return write(f, run, mtime, muid, cvers),
         Message::Wstat {
             path,
             name,
@@ -107,7 +108,7 @@ pub fn edit_of(m: Message, f: Record) -> Edit
             muid,
             perm,
             mtime,
-        } => restatement(f, path, name, perm, uid, gid, mtime, muid),
+        } => return restatement(f, path, name, perm, uid, gid, mtime, muid),
     }
 }
 

@@ -39,6 +39,8 @@ pub fn replay(
     ensures rows_after { answer_of result spans.new rows.new ≡ the_replay (log_of flash.now.geometry (replayed flash.now.geometry (image flash.now))) }
     ensures whole_held { WholeHeld result spans.new rows.new }
 {
+    // A copy: through the lent one its fields are loaded again for each message.
+    let flash = *flash;
     let mut t = tree::bare();
     let root = t.slots[0] as usize;
     runs::fresh(spans, root);
@@ -48,7 +50,7 @@ pub fn replay(
     // The slot of a path, by its low bits, and where a slot stood last: guesses that are tested before they are used.
     let mut near = [0u8; 1024];
     let mut place = [0u8; 256];
-    let Some(first) = flash_log::first(flash, p) else {
+    let Some(first) = flash_log::first(&flash, p) else {
         return Ok(Replayed {
             tree: t,
             room,
@@ -58,7 +60,7 @@ pub fn replay(
     };
     let mut c = first;
     loop {
-        match flash_log::next(flash, p, c) {
+        match flash_log::next(&flash, p, c) {
             Turn::End => {
                 return Ok(Replayed {
                     tree: t,
