@@ -7,8 +7,10 @@ use mathlib.Core.Option.{Option, none, some}
 use native.Mathlib.Omega.{arith}
 use lib.ListN.{take}
 use borrow.Author.Tests.{eq-eqb, ne_eqb}
-use Rattle.std.specs.Prelude.{Result, Ok, Err, ⊤}
+use Rattle.std.specs.Prelude as maybe
+use Rattle.std.specs.Prelude.{Result, Ok, Err, ⊤, OnErr, IfOk}
 use Rattle.base.proofs.Ways.{holds, fails, yes=, no=}
+use Rattle.meaning.specs.declared.Address.{Address}
 use Rattle.meaning.specs.declared.Extent.{Extent}
 use Rattle.meaning.specs.declared.Geometry.{Geometry}
 use Rattle.meaning.specs.declared.Refusal.{Refusal}
@@ -18,6 +20,7 @@ use Rattle.meaning.specs.Flash.{Lent, image_of}
 use Rattle.meaning.specs.Mount as meaning
 use Rattle.meaning.specs.Mount.{mount_of}
 use Rattle.used.specs.Bits.{listed, used_bits}
+use Rattle.used.specs.declared.Erase.{Erase}
 use Rattle.shown.specs.declared.Shown.{Shown}
 use Rattle.shown.specs.Shown as show
 use Rattle.shown.specs.Shown.{rows_shown, place_of}
@@ -35,7 +38,7 @@ insert_back (some a) = sym (no= 1 0 _ _ (λ h. omega (arith, h)) refl)
 
 -- ---- what is shown, told field by field
 
-pub record Tells (s : Shown) (xs : List Extent) (c : Core) : Type 0 where
+pub record Tells (s : Shown) (xs : List Extent) (r : Result ⊤ Refusal) (c : Core) : Type 0 where
   pub n : c.n ≡ s.files
   pub records : c.answer.records ≡ s.files
   pub runs : c.answer.runs ≡ s.extents
@@ -46,7 +49,7 @@ pub record Tells (s : Shown) (xs : List Extent) (c : Core) : Type 0 where
   pub used : c.answer.used ≡ s.used
   pub erase : c.answer.erase ≡ s.erase
   pub insertion : c.answer.insertion ≡ insertion_of (place_of s.insertion)
-  pub said : c.answer.said ≡ outcome_of (Ok tt)
+  pub said : c.answer.said ≡ outcome_of r
 
 -- the core that tells it
 abbrev core : Shown → List Extent → Core
@@ -66,7 +69,7 @@ core s xs = record {
   };
 }
 
-one_core : (s : Shown) (xs : List Extent) (c : Core) → Tells s xs c → c ≡ core s xs
+one_core : (s : Shown) (xs : List Extent) (c : Core) → Tells s xs (Ok tt) c → c ≡ core s xs
 one_core s xs c t = λ i. record {
   all = t.all i;
   n = t.n i;
@@ -121,7 +124,7 @@ module _ (g : Geometry) (l : Lent) (places : ℕ) where
       );
     }
 
-    pub cored : show.showing (Ok s) rows ≡ mount_in g l places → show.Sizes g l s rows → s.files ≤ places → (c : Core) → Tells s xs c → Cored g l places c
+    pub cored : show.showing (Ok s) rows ≡ mount_in g l places → show.Sizes g l s rows → s.files ≤ places → (c : Core) → Tells s xs (Ok tt) c → Cored g l places c
     cored z k h c t = subst (Cored g l places) (sym (one_core s xs c t)) (core_is z k h)
 
   pub cored_refused : (c : Core) (x : Refusal) → Blank c x → no x ≡ mount_in g l places → Cored g l places c
@@ -138,3 +141,17 @@ module _ (g : Geometry) (l : Lent) (places : ℕ) where
           b.3 ∙ ap insertion_of (sym (ap insert_of b.3 ∙ insert_back none)),
         );
       }
+
+  -- how it ended, and what was lent to be shown in: a refusal leaves that silent
+  pub cored_by : (r : Result ⊤ Refusal) (s z : Shown) (rows : List (List ℕ)) (xs : List Extent) → take s.extents xs ≡ rows_shown rows s.extents
+      → show.Silent z → OnErr r (s ≡ z) → show.showing (show.told r s) rows ≡ mount_in g l places → show.Sized g l (show.told r s) rows
+      → IfOk (show.told r s) (λ (k : Shown). k.files ≤ places) → (c : Core) → Tells s xs r c → Cored g l places c
+  cored_by (Ok x) s z rows xs e q k a b d c t = cored s rows xs e a b d c t
+  cored_by (Err x) s z rows xs e q k a b d c t =
+      cored_refused c x (
+        t.n ∙ ap (λ (y : Shown). y.files) k ∙ q.0,
+        (t.records ∙ ap (λ (y : Shown). y.files) k ∙ q.0, t.runs ∙ ap (λ (y : Shown). y.extents) k ∙ q.1, ap (λ (y : Erase). y.count) t.erase ∙ ap (λ (y : Shown). y.erase.count) k ∙ q.2),
+        t.said,
+        t.insertion ∙ ap (λ (y : Shown). insertion_of (place_of y.insertion)) k ∙ ap (λ (i : maybe.Option Address). insertion_of (place_of i)) q.3,
+      )
+      a

@@ -2,12 +2,11 @@
 // is changed here.
 #![tactic(auto)]
 
-ghost use Rattle.std.specs.Prelude.{◌≡◌, ◌≤◌, map, length, take, Err, IfOk};
+ghost use Rattle.std.specs.Prelude.{◌≡◌, ◌≤◌, map, length, take, IfOk, OnErr};
 ghost use Rattle.label.specs.Lent.{lent_of};
 ghost use Rattle.extent.specs.Rows.{extent_of};
-ghost use Rattle.shown.specs.Shown.{place_of, showing, Sized};
-ghost use Rattle.outcome.specs.Outcome.{outcome_of};
-ghost use Rattle.answer.specs.Mounted.{insertion_of, mount_in, Blank, Cored};
+ghost use Rattle.shown.specs.Shown.{place_of, showing, told, Sized};
+ghost use Rattle.answer.specs.Mounted.{insertion_of, mount_in, Cored};
 
 use label::Flash;
 use meaning::{Address, Extent, Record, Refusal};
@@ -97,68 +96,51 @@ fn extents_of(rows: &[[u32; 4]], n: usize) -> [Extent; 1024]
 // ---- the answer
 
 // GEOMETRY: "a slice length is wrong": a table that has not 256 places is refused.
-fn show_in(flash: &Flash, places: usize, rows: &mut [[u32; 4]]) -> Result<Shown, Refusal>
+fn show_in(
+    flash: &Flash,
+    places: usize,
+    rows: &mut [[u32; 4]],
+    shown: &mut Shown,
+) -> Result<(), Refusal>
     requires { 1024 ≤ length rows.old }
-    ensures shows { showing result rows.new ≡ mount_in flash.now.geometry (lent_of flash.now) places }
-    ensures sized { Sized flash.now.geometry (lent_of flash.now) result rows.new }
-    ensures room { IfOk result (λ s. s.files ≤ places) }
+    ensures shows { showing (told result shown.new) rows.new ≡ mount_in flash.now.geometry (lent_of flash.now) places }
+    ensures sized { Sized flash.now.geometry (lent_of flash.now) (told result shown.new) rows.new }
+    ensures room { IfOk (told result shown.new) (λ s. s.files ≤ places) }
+    ensures kept { OnErr result (shown.new ≡ shown.old) }
 {
     if places != 256 {
         return Err(Refusal::Geometry);
     }
-    shown::show(flash, rows)
+    shown::show(flash, rows, shown)
 }
 
-// A refusal has no records, and nothing beside it.
-fn refused(x: Refusal) -> Core
-    ensures { Blank result x }
-{
-    Core {
-        all: shown::blank(),
-        n: 0,
-        answer: Mounted {
-            said: Outcome::from(x),
-            records: 0,
-            applied: 0,
-            ignored: 0,
-            insertion: Insertion::from(None),
-            erase: Erase::none(),
-            used: [0; 1024],
-            runs: 0,
-            extents: [NO_EXTENT; 1024],
-        },
-    }
-}
-
-/// All that a mount shows, where the table has so many places; any but 256 are refused.
+/// All that a mount shows, where the table has so many places; any but 256 are refused. A refusal has no records: what is shown is as it
+/// was then, nothing. So there is one way to the answer, and it is copied no more than it must be.
 pub fn show_all(flash: &Flash, places: usize) -> Core
     ensures { Cored flash.now.geometry (lent_of flash.now) places result }
 {
     let mut rows = [[0u32; 4]; 1024];
-    match show_in(flash, places, &mut rows) {
-        Err(x) => refused(x),
-        Ok(s) => {
-            let extents = extents_of(&rows, s.extents);
-            let all = s.records;
-            let used = s.used;
-            let erase = s.erase;
-            let insertion = Insertion::from(s.insertion);
-            let said = Outcome::from(Ok(()));
-            Core {
-                all,
-                n: s.files,
-                answer: Mounted {
-                    records: s.files,
-                    extents,
-                    runs: s.extents,
-                    used,
-                    erase,
-                    insertion,
-                    applied: s.applied,
-                    ignored: s.ignored,
-                    said,
-                },
-            }
-        }
+    let mut s = Shown::none();
+    let ended = show_in(flash, places, &mut rows, &mut s);
+    let extents = extents_of(&rows, s.extents);
+    let all = s.records;
+    let used = s.used;
+    let erase = s.erase;
+    let insertion = Insertion::from(s.insertion);
+    let said = Outcome::from(ended);
+    Core {
+        all,
+        n: s.files,
+        answer: Mounted {
+            records: s.files,
+            extents,
+            runs: s.extents,
+            used,
+            erase,
+            insertion,
+            applied: s.applied,
+            ignored: s.ignored,
+            said,
+        },
     }
 }

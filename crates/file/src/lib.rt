@@ -10,6 +10,7 @@ ghost use Rattle.file.specs.File.{answer, length_of};
 
 use label::Flash;
 use meaning::{Record, Refusal};
+use shown::Shown;
 
 // The record of a path.
 fn record_of(records: &[Record], path: u64) -> Option<Record>
@@ -56,7 +57,8 @@ pub fn read(flash: &Flash, path: u64, x: u64, buffer: &mut [u8]) -> Result<usize
 {
     let p = plan::select(flash)?;
     let mut extents = [[0u32; 4]; 1024];
-    let s = shown::show(flash, &mut extents)?;
+    let mut s = Shown::none();
+    shown::show(flash, &mut extents, &mut s)?;
     let length = length_of(&s.records[0..s.files], path).ok_or(Refusal::NoFile(path))?;
     let n = count(buffer.len(), length, x);
     if 0 < n {

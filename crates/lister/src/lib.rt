@@ -109,8 +109,9 @@ pub fn put_listing(out: &mut [u8], at: usize, flash: &Flash) -> usize
     ensures { Wrote out.old at (the_listing (mount_of flash.now.geometry (lent_of flash.now)) flash.now.contents.now) out.new result }
 {
     let mut rows = [[0u32; 4]; 1024];
-    match shown::show(flash, &mut rows) {
-        Ok(r) => put_mount(out, at, &r, &rows, flash.contents),
+    let mut r = Shown::none();
+    match shown::show(flash, &mut rows, &mut r) {
+        Ok(()) => put_mount(out, at, &r, &rows, flash.contents),
         Err(x) => listing::put_refusal(out, at, x),
     }
 }

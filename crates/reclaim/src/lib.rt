@@ -17,6 +17,7 @@ mod steps;
 
 use label::{Flash, Label};
 use meaning::{Block, Geometry, Number, Refusal, Step, Tag};
+use shown::Shown;
 pub use steps::Steps;
 
 // ---- the target
@@ -157,7 +158,8 @@ fn list(flash: &Flash, number: u32) -> Result<Steps, Refusal>
     ensures { answer result ≡ the_reclaim flash.now.geometry (lent_of flash.now) number }
 {
     let mut extents = [[0u32; 4]; 1024];
-    let s = shown::show(flash, &mut extents)?;
+    let mut s = Shown::none();
+    shown::show(flash, &mut extents, &mut s)?;
     list_on(flash, number, &s.used, s.erase.count)
 }
 

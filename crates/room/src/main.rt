@@ -11,6 +11,7 @@
 
 use label::Flash;
 use meaning::{Block, Geometry, Number, Record, Refusal, Step};
+use shown::Shown;
 use std::io;
 
 // "numbers are at most 4095"
@@ -178,10 +179,10 @@ fn make_room(
         paths,
         contents,
     };
-    let r = match shown::show(&flash, &mut rows) {
-        Ok(r) => r,
-        Err(x) => return write_refusal(rt, x),
-    };
+    let mut r = Shown::none();
+    if let Err(x) = shown::show(&flash, &mut rows, &mut r) {
+        return write_refusal(rt, x);
+    }
     write_used(rt, &flash, &r.used)?;
     write_erase_list(rt, &r.erase.blocks[..r.erase.count])?;
     settle(rt, g, tags, paths, contents)?;

@@ -10,6 +10,7 @@ ghost use Rattle.settle.specs.Settled.{answer, each, Counted};
 
 use label::Flash;
 use meaning::{Block, Geometry, Refusal, Step};
+use shown::Shown;
 use used::Erase;
 
 // The list, from what a mount shows. Nothing is changed yet.
@@ -19,7 +20,8 @@ fn list(flash: &Flash) -> Result<Erase, Refusal>
     ensures counted { Counted result }
 {
     let mut extents = [[0u32; 4]; 1024];
-    let s = shown::show(flash, &mut extents)?;
+    let mut s = Shown::none();
+    shown::show(flash, &mut extents, &mut s)?;
     Ok(s.erase)
 }
 

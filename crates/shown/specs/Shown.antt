@@ -1,5 +1,5 @@
 -- The answer of a mount, as document 01 has it.
-use Rattle.std.specs.Prelude.{ℕ, ◌≤◌, ◌≡◌, List, map, length, take, Option, Some, None, Result, Ok, Err}
+use Rattle.std.specs.Prelude.{ℕ, ◌≤◌, ◌≡◌, List, map, length, take, Option, Some, None, Result, Ok, Err, ⊤}
 use Rattle.std.proofs.Math.Option as maybe
 use Rattle.meaning.specs.declared.Extent.{Extent}
 use Rattle.meaning.specs.declared.Geometry.{Geometry}
@@ -47,6 +47,14 @@ mounted r rows = record {
   erase = take r.erase.count r.erase.blocks;
   insert = place_of r.insertion;
 }
+
+-- how a mount ended, and what it then shows: nothing beside a refusal
+abbrev pub told : Result ⊤ Refusal → Shown → Result Shown Refusal
+told (Ok x) s = Ok s
+told (Err x) s = Err x
+
+abbrev pub Silent : Shown → Type 0
+Silent s = (s.files ≡ 0) × (s.extents ≡ 0) × (s.erase.count ≡ 0) × (s.insertion ≡ None)
 
 abbrev pub showing : Result Shown Refusal → List (List ℕ) → Answer Mounted
 showing r rows = answer_by (λ (s : Shown). mounted s rows) r

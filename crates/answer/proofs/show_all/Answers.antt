@@ -1,12 +1,9 @@
 use mathlib.Core.Path.{refl}
-use Rattle.answer.proofs.Laws.{cored, cored_refused}
+use Rattle.answer.proofs.Laws.{cored_by}
 use Rattle.answer.proofs.show_all.Goals as goal
 
-pub returns-in-Err : goal.returns-in-Err
-returns-in-Err c = cored_refused _ _ _ _ _ c.refused.ensures c.in-Err.ensures.shows
-
-pub returns-in-Ok : goal.returns-in-Ok
-returns-in-Ok c = cored _ _ _ c.in-Ok.s c.show_in.new.rows c.extents_of-extents.result c.extents_of-extents.ensures c.in-Ok.ensures.shows c.in-Ok.ensures.sized c.in-Ok.ensures.room _
+pub returns : goal.returns
+returns c = cored_by _ _ _ c.show_in-ended.result c.show_in-ended.new.shown c.none-s.result c.show_in-ended.new.rows c.extents_of-extents.result c.extents_of-extents.ensures c.none-s.ensures c.show_in-ended.ensures.kept c.show_in-ended.ensures.shows c.show_in-ended.ensures.sized c.show_in-ended.ensures.room _
     (record {
       n = refl;
       records = refl;

@@ -18,17 +18,17 @@ returns-in-Some-clause-extents_after c = let a = whole_answer c.in_ok-r.r c.repl
     let p = part_is c.gathered.new.out c.in_ok-r.r.room.used in
     later_lacking _ _ _ c.requires.0 c.in_ok-r.r c.gathered.new.out a p _ c.absent.ensures c.in-Some.is
 
-pub used_bits-used-requires : goal.used_bits-used-requires
-used_bits-used-requires c = pages_few _ _ _ c.requires.0
+pub used_bits-shown-requires : goal.used_bits-shown-requires
+used_bits-shown-requires c = pages_few _ _ _ c.requires.0
 
-pub erase_list-erase-requires : goal.erase_list-erase-requires
-erase_list-erase-requires c = tags_few _ _ _ c.requires.0
+pub erase_list-shown-requires : goal.erase_list-shown-requires
+erase_list-shown-requires c = tags_few _ _ _ c.requires.0
 
 pub bounds-t-s : goal.bounds-t-s
 bounds-t-s c = slot_there _ c.loop-k.invariant.1 c.loop-k.k (omega arith)
 
 pub loop-k-preserved : goal.loop-k-preserved
-loop-k-preserved c = (c.loop-k.invariant.0, c.loop-k.invariant.1, length-set c.loop-k.records c.loop-k.k _ ∙ c.loop-k.invariant.2, order_on _ c.loop-k.invariant.1 c.loop-k.records c.loop-k.k c.loop-k.invariant.3 c.loop-k.invariant.2 (omega arith))
+loop-k-preserved c = (c.loop-k.invariant.0, c.loop-k.invariant.1, length-set c.loop-k.shown.records c.loop-k.k _ ∙ c.loop-k.invariant.2, order_on _ c.loop-k.invariant.1 c.loop-k.shown.records c.loop-k.k c.loop-k.invariant.3 c.loop-k.invariant.2 (omega arith))
 
 pub returns-clause-extents_after : goal.returns-clause-extents_after
 returns-clause-extents_after c = let told = whole_told c.in_ok-r.r c.replay.new.spans c.replay.new.rows c.in_ok-r.ensures.whole_held c.replay.new.scratch c.gathered.ensures in
@@ -36,8 +36,8 @@ returns-clause-extents_after c = let told = whole_told c.in_ok-r.r c.replay.new.
     let p = part_is c.gathered.new.out c.in_ok-r.r.room.used in
     let z = later_whole _ _ _ c.requires.0 c.in_ok-r.r c.gathered.new.out a p _ c.absent.ensures c.in_default.is in
     let n = part_length c.gathered.new.out c.in_ok-r.r.room.used told.1 (omega (arith, c.gathered.auto.out, c.replay.auto.scratch, c.requires.1)) in
-    let in_order = order_end c.in_ok-r.r.tree told.0 c.loop-k.records c.loop-k.k c.loop-k.invariant.3 (omega arith) in
-    let h = whole_answered _ _ _ c.requires.0 c.in_ok-r.r _ n c.loop-k.records c.used_bits-used.ensures c.erase_list-erase.ensures c.insertion-insertion.ensures in_order c.gathered.new.out p told z _ (omega arith) in h.0
+    let in_order = order_end c.in_ok-r.r.tree told.0 c.loop-k.shown.records c.loop-k.k c.loop-k.invariant.3 (omega arith) in
+    let h = whole_answered _ _ _ c.requires.0 c.in_ok-r.r _ n c.loop-k.shown.records c.used_bits-shown.ensures c.erase_list-shown.ensures c.insertion-shown.ensures in_order c.gathered.new.out p told z _ (omega arith) in h.0
 
 pub returns-clause-sized : goal.returns-clause-sized
 returns-clause-sized c = let told = whole_told c.in_ok-r.r c.replay.new.spans c.replay.new.rows c.in_ok-r.ensures.whole_held c.replay.new.scratch c.gathered.ensures in
@@ -45,5 +45,5 @@ returns-clause-sized c = let told = whole_told c.in_ok-r.r c.replay.new.spans c.
     let p = part_is c.gathered.new.out c.in_ok-r.r.room.used in
     let z = later_whole _ _ _ c.requires.0 c.in_ok-r.r c.gathered.new.out a p _ c.absent.ensures c.in_default.is in
     let n = part_length c.gathered.new.out c.in_ok-r.r.room.used told.1 (omega (arith, c.gathered.auto.out, c.replay.auto.scratch, c.requires.1)) in
-    let in_order = order_end c.in_ok-r.r.tree told.0 c.loop-k.records c.loop-k.k c.loop-k.invariant.3 (omega arith) in
-    let h = whole_answered _ _ _ c.requires.0 c.in_ok-r.r _ n c.loop-k.records c.used_bits-used.ensures c.erase_list-erase.ensures c.insertion-insertion.ensures in_order c.gathered.new.out p told z _ (omega arith) in h.1
+    let in_order = order_end c.in_ok-r.r.tree told.0 c.loop-k.shown.records c.loop-k.k c.loop-k.invariant.3 (omega arith) in
+    let h = whole_answered _ _ _ c.requires.0 c.in_ok-r.r _ n c.loop-k.shown.records c.used_bits-shown.ensures c.erase_list-shown.ensures c.insertion-shown.ensures in_order c.gathered.new.out p told z _ (omega arith) in h.1
