@@ -9,9 +9,8 @@ pub struct Before<'a> {
     pub files: &'a [Record],
 }
 
-fn same_listing(cut: &Flash, listed: &[u8]) -> bool {
-    let mut out = [0u8; 327680];
-    let n = lister::put_listing(&mut out, 0, cut);
+fn same_listing(cut: &Flash, listed: &[u8], out: &mut [u8]) -> bool {
+    let n = lister::put_listing(out, 0, cut);
     match out.get(..n) {
         None => false,
         Some(now) => listed == now,
@@ -42,7 +41,7 @@ fn same_file(flash: &Flash, cut: &Flash, f: &Record) -> bool {
     tree::is_dir(f.perm) || same_bytes(flash, cut, f.path, f.length)
 }
 
-/// Whether a cut image shows the same as before: the listing, and every plain file.
-pub fn shows_same(flash: &Flash, cut: &Flash, before: &Before) -> bool {
-    same_listing(cut, before.listed) && before.files.iter().all(|f| same_file(flash, cut, f))
+/// Whether a cut image shows the same as before: the listing, which is written to `out`, and every plain file.
+pub fn shows_same(flash: &Flash, cut: &Flash, before: &Before, out: &mut [u8]) -> bool {
+    same_listing(cut, before.listed, out) && before.files.iter().all(|f| same_file(flash, cut, f))
 }

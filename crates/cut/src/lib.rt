@@ -12,7 +12,7 @@ ghost use Rattle.std.specs.Prelude.{◌≡◌, ◌+◌, ◌-◌, ◌%◌, ◌^�
 pub use judge::Before;
 use junk::Junk;
 use label::{Flash, Label};
-pub use lists::label_first;
+pub use lists::{erases, label_first};
 use meaning::Step;
 pub use spare::{Spare, reclaim, settle};
 
@@ -59,7 +59,14 @@ impl Tried {
 
 // A step cut short leaves junk in the block under work and its label as it was; an erase may also leave junk and a free label. A label
 // is old or new, which is between steps both times.
-fn try_within(flash: &Flash, done: &[Step], next: Step, before: &Before) -> Tried {
+fn try_within(
+    flash: &Flash,
+    done: &[Step],
+    next: Step,
+    before: &Before,
+    spare: &mut Spare,
+    out: &mut [u8],
+) -> Tried {
     let mut t = Tried::none();
     let block = match next {
         Step::Erase(b) => b,
@@ -67,41 +74,52 @@ fn try_within(flash: &Flash, done: &[Step], next: Step, before: &Before) -> Trie
         Step::LabelWrite { .. } => return t,
     };
     for junk in &[Junk::Zeros, Junk::Blank, Junk::Scattered, Junk::Create] {
-        let mut spare = Spare::after(flash, done);
+        spare.hold_after(flash, done);
         spare.spoil(block, *junk);
-        let spoiled = spare.flash();
-        t = t.and(Tried::one(judge::shows_same(flash, &spoiled, before)));
+        t = t.and(Tried::one(judge::shows_same(flash, &spare.flash(), before, out)));
         if matches!(next, Step::Erase(_)) {
-            let free = Step::LabelWrite {
+            spare.step(Step::LabelWrite {
                 block,
                 tag: Label::FREE,
                 path: FREE,
-            };
-            let freed = Spare::after(&spoiled, &[free]);
-            t = t.and(Tried::one(judge::shows_same(flash, &freed.flash(), before)));
+            });
+            t = t.and(Tried::one(judge::shows_same(flash, &spare.flash(), before, out)));
         }
     }
     t
 }
 
 // Every state of a cut after k steps: between two steps, and within the next.
-fn try_cut(flash: &Flash, steps: &[Step], k: usize, before: &Before) -> Tried
+fn try_cut(
+    flash: &Flash,
+    steps: &[Step],
+    k: usize,
+    before: &Before,
+    spare: &mut Spare,
+    out: &mut [u8],
+) -> Tried
     requires { k ≤ length steps.now }
 {
     let done = &steps[..k];
-    let spare = Spare::after(flash, done);
-    let t = Tried::one(judge::shows_same(flash, &spare.flash(), before));
+    spare.hold_after(flash, done);
+    let t = Tried::one(judge::shows_same(flash, &spare.flash(), before, out));
     match steps.get(k) {
         None => t,
-        Some(next) => t.and(try_within(flash, done, *next, before)),
+        Some(next) => t.and(try_within(flash, done, *next, before, spare, out)),
     }
 }
 
-/// The steps of a list done on the image, cut at every place.
-pub fn try_list(flash: &Flash, steps: &[Step], before: &Before) -> Tried {
+/// The steps of a list done on the image, cut at every place. The spare holds each cut state in turn, and `out` its listing.
+pub fn try_list(
+    flash: &Flash,
+    steps: &[Step],
+    before: &Before,
+    spare: &mut Spare,
+    out: &mut [u8],
+) -> Tried {
     let mut t = Tried::none();
     for k in 0..=steps.len() {
-        t = t.and(try_cut(flash, steps, k, before));
+        t = t.and(try_cut(flash, steps, k, before, spare, out));
     }
     t
 }

@@ -11,9 +11,10 @@
 
 ghost use Rattle.std.specs.Prelude.{◌≤◌, length};
 
-use cut::{Before, Tried};
+use cut::{Before, Spare, Tried};
 use label::Flash;
 use meaning::{Number, Record};
+use shown::Shown;
 use std::io;
 
 // "numbers are at most 4095"
@@ -50,14 +51,16 @@ fn try_reclaim(
     image: u64,
     number: Number,
     before: &Before,
+    spare: &mut Spare,
+    out: &mut [u8],
     all: Totals,
 ) -> io::Result<Totals> {
     let n = number.0;
-    let list = cut::reclaim(flash, number);
-    let t = cut::try_list(flash, list.as_slice(), before);
+    let list = cut::reclaim(flash, number, spare);
+    let t = cut::try_list(flash, list.as_slice(), before, spare, out);
     println!(rt; "R\t{image}\t{n}\t{}\t{}\t{}", list.count, t.cuts, t.same)?;
     let wrong = cut::label_first(&list);
-    let u = cut::try_list(flash, wrong.as_slice(), before);
+    let u = cut::try_list(flash, wrong.as_slice(), before, spare, out);
     println!(rt;
         "I\t{image}\t{n}\t{}\t{}\t{}",
         wrong.count,
@@ -72,13 +75,15 @@ fn try_reclaims(
     flash: &Flash,
     image: u64,
     before: &Before,
+    spare: &mut Spare,
+    out: &mut [u8],
     first: Totals,
 ) -> io::Result<Totals> {
     let mut all = first;
     for k in 0..NUMBERS {
         let number = Number(k);
         if flash.find_data(number).is_some() {
-            all = try_reclaim(rt, flash, image, number, before, all)?;
+            all = try_reclaim(rt, flash, image, number, before, spare, out, all)?;
         }
     }
     Ok(all)
@@ -90,33 +95,57 @@ fn try_services(
     flash: &Flash,
     image: u64,
     before: &Before,
+    out: &mut [u8],
     all: Totals,
 ) -> io::Result<Totals> {
-    let (settled, list) = cut::settle(flash);
-    let t = cut::try_list(flash, list.as_slice(), before);
+    let mut settled = Spare::empty();
+    let mut spare = Spare::empty();
+    let list = cut::settle(flash, &mut settled);
+    let t = cut::try_list(flash, list.as_slice(), before, &mut spare, out);
     println!(rt; "S\t{image}\t{}\t{}\t{}", list.count, t.cuts, t.same)?;
-    try_reclaims(rt, &settled.flash(), image, before, all.with_proper(t))
+    try_reclaims(
+        rt,
+        &settled.flash(),
+        image,
+        before,
+        &mut spare,
+        out,
+        all.with_proper(t),
+    )
 }
 
-fn try_image(rt: &impl Print, flash: &Flash, image: u64, all: Totals) -> io::Result<Totals> {
-    let mut listed = [0u8; 327680];
-    let n = lister::put_listing(&mut listed, 0, flash);
+// The two buffers of listings are lent: they are large, and images may be many.
+fn try_image(
+    rt: &impl Print,
+    flash: &Flash,
+    image: u64,
+    listed: &mut [u8],
+    out: &mut [u8],
+    all: Totals,
+) -> io::Result<Totals> {
+    let n = lister::put_listing(listed, 0, flash);
     let Some(listed) = listed.get(..n) else {
         return Ok(all);
     };
     let mut rows = [[0u32; 4]; 1024];
-    match shown::show(flash, &mut rows) {
-        Ok(r) => {
-            let files = &r.records[..r.files];
-            try_services(rt, flash, image, &Before { listed, files }, all)
-        }
-        Err(_) => try_services(rt, flash, image, &Before { listed, files: &[] }, all),
-    }
+    let mut r = Shown::none();
+    let files = match shown::show(flash, &mut rows, &mut r) {
+        Ok(()) => &r.records[..r.files],
+        Err(_) => &[],
+    };
+    try_services(rt, flash, image, &Before { listed, files }, out, all)
 }
 
 // ---- the images
 
-fn try_text(rt: &impl Print, text: &[u8], image: u64, all: Totals) -> io::Result<Totals> {
+fn try_text(
+    rt: &impl Print,
+    text: &[u8],
+    image: u64,
+    listed: &mut [u8],
+    out: &mut [u8],
+    all: Totals,
+) -> io::Result<Totals> {
     let mut tags = [0u8; 32];
     let mut paths = [0u64; 32];
     let mut contents = [0u8; 32768];
@@ -132,7 +161,7 @@ fn try_text(rt: &impl Print, text: &[u8], image: u64, all: Totals) -> io::Result
         paths: &paths[..n],
         contents: &contents[..bytes],
     };
-    try_image(rt, &flash, image, all)
+    try_image(rt, &flash, image, listed, out, all)
 }
 
 // Whether the line `Z` that ends a dump begins at i.
@@ -154,7 +183,7 @@ fn end_of(text: &[u8]) -> usize
     text.len()
 }
 
-fn try_all(rt: &impl Print, text: &[u8]) -> io::Result<Totals> {
+fn try_all(rt: &impl Print, text: &[u8], listed: &mut [u8], out: &mut [u8]) -> io::Result<Totals> {
     let mut all = Totals {
         proper: Tried::none(),
         impostors: Tried::none(),
@@ -165,7 +194,7 @@ fn try_all(rt: &impl Print, text: &[u8]) -> io::Result<Totals> {
     while !left.is_empty() {
         let end = end_of(left);
         image = image.wrapping_add(1);
-        all = try_text(rt, &left[..end], image, all)?;
+        all = try_text(rt, &left[..end], image, listed, out, all)?;
         let Some(next) = left[end..].get(2..) else {
             return Ok(all);
         };
@@ -177,7 +206,9 @@ fn try_all(rt: &impl Print, text: &[u8]) -> io::Result<Totals> {
 fn main(rt: HostRuntime) -> io::Result<()> {
     let mut text = [0u8; 81920];
     let n = input::read_full(&mut rt.stdin(), &mut text)?;
-    let all = try_all(&rt, &text[..n])?;
+    let mut listed = [0u8; 327680];
+    let mut out = [0u8; 327680];
+    let all = try_all(&rt, &text[..n], &mut listed, &mut out)?;
     let wrong = all.impostors;
     println!(rt;
         "T\t{}\t{}\t{}\t{}",
