@@ -83,7 +83,9 @@ fn do_reclaim(
 
 impl Spare {
     /// Room for an image. One spare is lent for every cut state: a state costs a copy of the image's own bytes, and no more.
-    pub fn empty() -> Spare {
+    pub fn empty() -> Spare
+        ensures { (result.geometry.size ≡ 0) × (result.geometry.pages ≡ 0) × (result.geometry.blocks ≡ 0) }
+    {
         Spare {
             geometry: Geometry {
                 size: 0,
