@@ -7,7 +7,7 @@
  *     element, also where the count is 0, and those elements may be read (and, where x is not const, written) until the call returns.
  *   - What is lent to be written overlaps nothing else that is lent to the same call. What is lent as const may overlap.
  *   - Nothing is kept after a call, nothing global is written, and no memory is allocated: calls from several threads on different
- *     memory do not meet. A call needs 384 KiB of stack, the answer's own among them.
+ *     memory do not meet. A call needs 256 KiB of stack beside the answer's own.
  *
  * An answer begins with how the service ended: refusal is 0, or one of the numbers below, and place is then the place of document 01's
  * table (a physical block, a logical address, a path or a count). A refusal changes nothing that was lent.
